@@ -1,0 +1,3 @@
+-- The laws of the field of 16, for the proofs of this crate and of every layer above it, and what the code's steps ask.
+pub mod Laws
+mod Steps

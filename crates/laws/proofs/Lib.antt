@@ -1,0 +1,2 @@
+-- Laws of numbers and lists that several layers cite.
+pub mod Every
