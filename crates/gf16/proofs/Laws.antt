@@ -28,11 +28,11 @@ xor-assoc =
     bin-ind (λ (n : ℕ). (b c : ℕ) → bitXor (bitXor n b) c ≡ bitXor n (bitXor b c))
     (λ b c. ap (λ (x : ℕ). bitXor x c) (xor-zero-l b) ∙ sym (xor-zero-l (bitXor b c)))
     (λ n ih b c.
-        xor-step (bitXor n b) c
-        ∙ ap₂ (λ (x y : ℕ). x * 2 + y)
-            (ap (λ (x : ℕ). bitXor x (c / 2)) (xor-shr n b 1) ∙ ih (b / 2) (c / 2) ∙ ap (λ (x : ℕ). bitXor (n / 2) x) (sym (xor-shr b c 1)))
-            (ap (λ (x : ℕ). differ x (c % 2)) (xor-mod n b 1) ∙ digit-assoc n b c ∙ ap (λ (x : ℕ). differ (n % 2) x) (sym (xor-mod b c 1)))
-        ∙ sym (xor-step n (bitXor b c)))
+    xor-step (bitXor n b) c
+    ∙ ap₂ (λ (x y : ℕ). x * 2 + y)
+    (ap (λ (x : ℕ). bitXor x (c / 2)) (xor-shr n b 1) ∙ ih (b / 2) (c / 2) ∙ ap (λ (x : ℕ). bitXor (n / 2) x) (sym (xor-shr b c 1)))
+    (ap (λ (x : ℕ). differ x (c % 2)) (xor-mod n b 1) ∙ digit-assoc n b c ∙ ap (λ (x : ℕ). differ (n % 2) x) (sym (xor-mod b c 1)))
+    ∙ sym (xor-step n (bitXor b c)))
 
 pub sum-assoc : (a b c : ℕ) → sum (sum a b) c ≡ sum a (sum b c)
 unfolding sum
@@ -234,3 +234,16 @@ pub generated : (a : ℕ) → a < 16 → a ≢ 0 → (i : ℕ) × (i < 15) × (p
 unfolding product reduced lowered expanded power placed generated-test
 generated zero h n = absurd (n refl)
 generated (suc a) h n = let t = at 15 generated-test tt a (omega arith) in (placed 15 (suc a), ltb→lt (placed 15 (suc a)) 15 (both-left (ltb (placed 15 (suc a)) 15) (eqb (power 2 (placed 15 (suc a))) (suc a)) t), eqb→eq (power 2 (placed 15 (suc a))) (suc a) (both-right (ltb (placed 15 (suc a)) 15) (eqb (power 2 (placed 15 (suc a))) (suc a)) t))
+
+nonzero-test : ℕ → Bool
+nonzero-test k = ltb 0 (power 2 k)
+
+pub power-nonzero : (k : ℕ) → k < 15 → power 2 k ≢ 0
+unfolding product reduced lowered expanded power nonzero-test
+power-nonzero k h e = let t : 0 < power 2 k = ltb→lt 0 (power 2 k) (at 15 nonzero-test tt k h) in omega arith
+
+-- ---- identities of sums of products: `simp ring` closes them, and `simp ring2` those in which terms cancel
+
+pub ruleset ring = (product-sum, sum-product, product-assoc, product-comm, product-left, sum-assoc, sum-comm, sum-left)
+
+pub ruleset ring2 = (ring, cancel, sum-self, sum-zero, zero-sum)

@@ -10,6 +10,7 @@ pub struct SemiOctet(pub u8);
 
 impl SemiOctet {
     pub const ZERO: SemiOctet = SemiOctet(0);
+
     pub const ONE: SemiOctet = SemiOctet(1);
 
     pub fn sum(a: SemiOctet, b: SemiOctet) -> SemiOctet

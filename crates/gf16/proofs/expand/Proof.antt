@@ -2,43 +2,32 @@
 use Prim.Native.Nat.{_<_}
 use native.Mathlib.Omega.{arith}
 use lib.Bits.{bitXor, xor-lt}
-use Rattle.gf16.specs.Field.{expanded}
 use borrow.Author.Needs.{needs}
+use Rattle.gf16.specs.Field.{expanded}
 use Rattle.gf16.proofs.expand.Statement.{statement}
 use Rattle.gf16.proofs.expand.Tie as tie
-use Rattle.gf16.proofs.expand.Reads as reads
-use Rattle.gf16.proofs.expand.Lts as lts
-use Rattle.gf16.proofs.term.Reads as term-reads
 
--- src/lib.rt:52:6
 term-requires : tie.Need-term-requires
 term-requires c κs = search needs
 
--- src/lib.rt:52:39
 mul-term : tie.Need-mul-term
 mul-term c = search needs
 
--- src/lib.rt:52:23
 term-requires-2 : tie.Need-term-requires-2
 term-requires-2 c κs = search needs
 
--- src/lib.rt:52:66
 mul-term-2 : tie.Need-mul-term-2
 mul-term-2 c = search needs
 
--- src/lib.rt:52:50
 term-requires-3 : tie.Need-term-requires-3
 term-requires-3 c κs = search needs
 
--- src/lib.rt:52:91
 mul-term-3 : tie.Need-mul-term-3
 mul-term-3 c = search needs
 
--- src/lib.rt:52:75
 term-requires-4 : tie.Need-term-requires-4
 term-requires-4 c κs = search needs
 
--- src/lib.rt:48:1
 returns : tie.Need-returns
 unfolding expanded
 returns c =
