@@ -1,0 +1,99 @@
+-- `code_word::make` meets its contract. Assumes nothing.
+use mathlib.Core.Path.{_≡_}
+use Prim.Native.Nat.{_*_, _-_}
+use native.Mathlib.Omega.{arith}
+use lib.ListN.{length, drop}
+use borrow.Author.Needs.{needs}
+use Rattle.code_word.specs.Word.{SemiOctets, Fits}
+use Rattle.code_word.proofs.Promises.{told-no, told-yes, not-made-fitting}
+use Rattle.code_word.proofs.Encoding as encoding
+use Rattle.code_word.proofs.make.Statement.{statement}
+use Rattle.code_word.proofs.make.Tie as tie
+
+fits-requires : tie.Need-fits-requires
+fits-requires c κs = search needs
+
+returns : tie.Need-returns
+returns c =
+    let a = c .before .before .before .args in
+    not-made-fitting (a .mode) (a .word .now) (told-no _ (c .before .fits2 .result) (c .before .fits2 .ensures) (c .if1 .taken))
+
+mul-n : tie.Need-mul-n
+mul-n c = search needs
+
+sub-n : tie.Need-sub-n
+sub-n c =
+    let a = c .before .before .before .args in
+    let f : Fits (a .mode) (length (a .word .now)) = told-yes _ (c .before .fits2 .result) (c .before .fits2 .ensures) (c .if1 .left) in
+    omega (arith, f .mode-from)
+
+semi-octets-requires : tie.Need-semi-octets-requires
+semi-octets-requires c κs =
+    let e = c .before in
+    let a = e .before .before .before .args in
+    let f : Fits (a .mode) (length (a .word .now)) = told-yes _ (e .before .fits2 .result) (e .before .fits2 .ensures) (e .if1 .left) in
+    omega (arith, f .checks)
+
+same-length : tie.Need-same-length
+same-length c = search needs
+
+returns-2 : tie.Need-returns-2
+returns-2 c =
+    let e = c .before .before .before in
+    let a = e .before .before .before .args in
+    encoding.not-made (a .mode) (2 * a .mode - 2) (a .word .now) (omega arith) (told-no _ (c .before .semi-octets .result) (c .before .semi-octets .ensures) (c .if2 .taken))
+
+rows-requires : tie.Need-rows-requires
+rows-requires c κs =
+    let e = c .before .before .before in
+    let a = e .before .before .before .args in
+    let f : Fits (a .mode) (length (a .word .now)) = told-yes _ (e .before .fits2 .result) (e .before .fits2 .ensures) (e .if1 .left) in
+    (f .mode-from, f .mode-to)
+
+divide-requires : tie.Need-divide-requires
+divide-requires c κs =
+    let d = c .before .before .before in
+    let e = d .before .before .before in
+    let a = e .before .before .before .args in
+    let f : Fits (a .mode) (length (a .word .now)) = told-yes _ (e .before .fits2 .result) (e .before .fits2 .ensures) (e .if1 .left) in
+    (omega (arith, f .checks), told-yes _ (d .before .semi-octets .result) (d .before .semi-octets .ensures) (d .if2 .left))
+
+pour-requires : tie.Need-pour-requires
+pour-requires c κs =
+    let e = c .before .before .before .before .before .before .before .before in
+    let a = e .before .before .before .args in
+    let f : Fits (a .mode) (length (a .word .now)) = told-yes _ (e .before .fits2 .result) (e .before .fits2 .ensures) (e .if1 .left) in
+    omega (arith, f .checks)
+
+same-length-2 : tie.Need-same-length-2
+same-length-2 c = search needs
+
+returns-3 : tie.Need-returns-3
+returns-3 c =
+    let o = c .before .before in
+    let v = o .before .before in
+    let r = v .before .before .before in
+    let d = r .before in
+    let e = d .before .before .before in
+    let a = e .before .before .before .args in
+    let f : Fits (a .mode) (length (a .word .now)) = told-yes _ (e .before .fits2 .result) (e .before .fits2 .ensures) (e .if1 .left) in
+    encoding.made (a .mode) (2 * a .mode - 2) (v .divide .result) (r .rows .result) (a .word .now) (o .pour .last .0)
+    (f .mode-from) (f .mode-to) (omega arith) (omega (arith, f .checks)) (f .most) (r .rows .ensures)
+    (told-yes _ (d .before .semi-octets .result) (d .before .semi-octets .ensures) (d .if2 .left)) (v .divide .ensures) (o .pour .ensures)
+
+pub make-spec : {M : Type 1} → statement M
+make-spec =
+    tie.close
+    (tie.spec
+    fits-requires
+    returns
+    mul-n
+    sub-n
+    semi-octets-requires
+    same-length
+    returns-2
+    rows-requires
+    divide-requires
+    pour-requires
+    same-length-2
+    returns-3)

@@ -1,0 +1,33 @@
+-- `code_word::settings::fits` meets its contract. Assumes nothing.
+use native.Mathlib.Omega.{arith}
+use borrow.Author.Needs.{needs}
+use Rattle.code_word.proofs.Tests.{fits-not, fits-checked}
+use Rattle.code_word.proofs.settings.fits.Statement.{statement}
+use Rattle.code_word.proofs.settings.fits.Tie as tie
+
+mul-result : tie.Need-mul-result
+mul-result c = search needs
+
+sub-result : tie.Need-sub-result
+sub-result c = search needs
+
+returns : tie.Need-returns
+returns c =
+    let a = c .before .before .before .before .args in
+    fits-checked (a .mode) (a .long) (omega arith) (omega arith) (omega arith)
+
+returns-2 : tie.Need-returns-2
+returns-2 c = fits-not _ _ (λ f. omega (arith, f .mode-from))
+
+returns-3 : tie.Need-returns-3
+returns-3 c = fits-not _ _ (λ f. omega (arith, f .mode-to))
+
+returns-4 : tie.Need-returns-4
+returns-4 c = fits-not _ _ (λ f. omega (arith, f .mode-from, f .checks))
+
+returns-5 : tie.Need-returns-5
+returns-5 c = fits-not _ _ (λ f. omega (arith, f .most))
+
+pub fits-spec : {M : Type 1} → statement M
+fits-spec =
+    tie.close (tie.spec mul-result sub-result returns returns-2 returns-3 returns-4 returns-5)

@@ -1,0 +1,90 @@
+// One Reed-Solomon code word of Annex A over the field of 16 (crate `gf16`): its check semi-octets, and its correction.
+// Promised, for every word and mode: `make` leaves the only valid word over the data; `correct` leaves the only valid word of the word's own
+// length within m - 1 places, with the count of places, or says that there is none and leaves the word as it was lent; `correct_each` does so
+// for many words. What is out of range gets an answer of its own. specs/ says what is right; proofs/ has the distance argument, once for d.
+ghost use Rattle.code_word.specs.Make as making;
+ghost use Rattle.code_word.specs.Correct.{Corrects, numberOf, countOf, CorrectsEach, batchNumberOf};
+
+mod corrector;
+mod encoder;
+mod settings;
+
+// Whether a word was made.
+pub enum Making {
+    Made,
+    Unsuitable,
+}
+
+// What correcting a word found: the count of changed semi-octets, or no valid word near enough.
+pub enum Correction {
+    Corrected(u8),
+    None,
+    Unsuitable,
+}
+
+// Whether each of many words has its answer.
+pub enum Answers {
+    Given,
+    Unsuitable,
+}
+
+// The word's check semi-octets in front of its data (A.43 to A.45), in mode 2, 3 or 4.
+pub fn make(word: &mut [u8], mode: u32) -> Making
+    ensures { λ r. ⌜ making.Makes mode (now (word .entry)) (now (word .exit)) (making.numberOf r) ⌝ }
+{
+    if !settings::fits(mode, word.len()) {
+        return Making::Unsuitable;
+    }
+    let n = 2 * (mode as usize) - 2;
+    if !settings::semi_octets(word, n) {
+        return Making::Unsuitable;
+    }
+    let rows = encoder::rows(mode);
+    let r = encoder::divide(&rows, word, n);
+    encoder::pour(word, n, r);
+    Making::Made
+}
+
+// Corrects a word of semi-octets to the only valid one of its length within m - 1 places.
+pub fn correct(word: &mut [u8], mode: u32) -> Correction
+    ensures { λ r. ⌜ Corrects mode (now (word .entry)) (now (word .exit)) (numberOf r) (countOf r) ⌝ }
+{
+    if !settings::fits(mode, word.len()) {
+        return Correction::Unsuitable;
+    }
+    if !settings::semi_octets(word, 0) {
+        return Correction::Unsuitable;
+    }
+    let most = (mode - 1) as u8;
+    let t = corrector::table();
+    let count = corrector::mend(&t, word, most);
+    if most < count {
+        return Correction::None;
+    }
+    Correction::Corrected(count)
+}
+
+// Corrects as many words as there are counts: they stand one after the other, as even in length as can be, the longer first.
+// The table is made once for all of them.
+pub fn correct_each(words: &mut [u8], mode: u32, counts: &mut [u8]) -> Answers
+    ensures { λ r. ⌜ CorrectsEach mode (now (words .entry)) (now (counts .entry)) (now (words .exit)) (now (counts .exit)) (batchNumberOf r) ⌝ }
+{
+    if counts.len() == 0 {
+        return Answers::Unsuitable;
+    }
+    let long = words.len() / counts.len();
+    let over = words.len() % counts.len();
+    if !settings::fits(mode, long) {
+        return Answers::Unsuitable;
+    }
+    if !settings::fits_longer(mode, long, over) {
+        return Answers::Unsuitable;
+    }
+    if !settings::semi_octets(words, 0) {
+        return Answers::Unsuitable;
+    }
+    let most = (mode - 1) as u8;
+    let t = corrector::table();
+    corrector::mend_each(&t, words, long, over, most, counts);
+    Answers::Given
+}

@@ -1,0 +1,43 @@
+// What a word may be: the modes and lengths that are taken, and elements that are semi-octets.
+ghost use Prim.Native.Nat.{_+_, _≤_, _<_};
+ghost use lib.ListN.{length, drop};
+ghost use Rattle.laws.specs.Decides.{Decides};
+ghost use Rattle.code_word.specs.Word.{SemiOctets, Fits};
+
+// Whether words of this length are taken in this mode: at least the check semi-octets, and at most 15 in all.
+pub fn fits(mode: u32, long: usize) -> bool
+    ensures { λ r. ⌜ Decides (Fits mode long) r ⌝ }
+{
+    match long {
+        2..=15 => match mode {
+            2..=4 => 2 * (mode as usize) - 2 <= long,
+            _ => false,
+        },
+        _ => false,
+    }
+}
+
+// Whether words that are one longer are taken too, where there are such words.
+pub fn fits_longer(mode: u32, long: usize, over: usize) -> bool
+    requires { ⌜ long ≤ 15 ⌝ }
+    ensures { λ r. ⌜ Decides (0 < over → Fits mode (long + 1)) r ⌝ }
+{
+    if over == 0 {
+        return true;
+    }
+    fits(mode, long + 1)
+}
+
+// Whether the elements from place n on are semi-octets: whether all bits that occur in them are low.
+pub fn semi_octets(word: &[u8], n: usize) -> bool
+    requires { ⌜ n ≤ length (now word) ⌝ }
+    ensures { λ r. ⌜ Decides (SemiOctets (drop n (now (word .entry)))) r ⌝ }
+{
+    let mut bits = 0;
+    let mut k = word.len();
+    while n < k {
+        k = k - 1;
+        bits = bits | word[k];
+    }
+    bits < 16
+}

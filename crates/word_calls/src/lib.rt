@@ -1,0 +1,53 @@
+// The functions of `code_word` under C names, for the tests and the benchmark in tests/code_word: the enum answers as document 01's numbers.
+// It stands over `code_word`, and each contract is that of the function called, with the number in place of the enum.
+ghost use Rattle.code_word.specs.Make.{Makes};
+ghost use Rattle.code_word.specs.Correct.{Corrects, CorrectsEach};
+use code_word::Answers;
+use code_word::Correction;
+use code_word::Making;
+
+#[repr(C)]
+pub struct WordAnswer {
+    pub number: u8,
+    pub count: u8,
+}
+
+#[no_mangle]
+pub extern "C" fn word_make(word: &mut [u8], mode: u32) -> u8
+    ensures { λ r. ⌜ Makes mode (now (word .entry)) (now (word .exit)) r ⌝ }
+{
+    match code_word::make(word, mode) {
+        Making::Made => 0,
+        Making::Unsuitable => 1,
+    }
+}
+
+#[no_mangle]
+pub extern "C" fn word_correct(word: &mut [u8], mode: u32) -> WordAnswer
+    ensures { λ r. ⌜ Corrects mode (now (word .entry)) (now (word .exit)) (r .number) (r .count) ⌝ }
+{
+    match code_word::correct(word, mode) {
+        Correction::Corrected(n) => WordAnswer {
+            number: 0,
+            count: n,
+        },
+        Correction::None => WordAnswer {
+            number: 3,
+            count: 0,
+        },
+        Correction::Unsuitable => WordAnswer {
+            number: 1,
+            count: 0,
+        },
+    }
+}
+
+#[no_mangle]
+pub extern "C" fn word_correct_each(words: &mut [u8], mode: u32, counts: &mut [u8]) -> u8
+    ensures { λ r. ⌜ CorrectsEach mode (now (words .entry)) (now (counts .entry)) (now (words .exit)) (now (counts .exit)) r ⌝ }
+{
+    match code_word::correct_each(words, mode, counts) {
+        Answers::Given => 0,
+        Answers::Unsuitable => 1,
+    }
+}
