@@ -1,0 +1,131 @@
+-- Demand 3, both halves, from the definitions that the two public contracts name. Assumes nothing.
+use mathlib.Core.Path.{_≡_, refl, sym, ap, _∙_}
+use mathlib.Core.Bool.{Bool, true, false}
+use mathlib.Core.List.{List}
+use Prim.Native.Nat.{ℕ, _*_, _-_, _<_}
+use native.Mathlib.Omega.{arith}
+use lib.Dec.{eqb}
+use borrow.Author.Tests.{eqb-true, eq-eqb}
+use Rattle.laws.specs.Tab.{Below}
+use Rattle.laws.proofs.Tab.{total-zero}
+use Rattle.laws.proofs.Spread.{total-nil}
+use Rattle.code_word.specs.Word.{unequal, apart, distance}
+use Rattle.code_word.proofs.Division.{unique}
+use Rattle.slot.specs.Sizes.{InRange, words}
+use Rattle.slot.specs.Semi.{Bytes, semi}
+use Rattle.slot.specs.Words.{signature, received}
+use Rattle.slot.specs.Slot.{Sent, slotOf, wordIn}
+use Rattle.slot.specs.Changes.{changed, changes, changesIn, AtMost}
+use Rattle.slot.specs.Protect.{Lengths, Protects}
+use Rattle.slot.specs.Unprotect.{Corrected, Taken, IsAccepted, Unprotects}
+use Rattle.slot.specs.Demand.{DemandThree}
+use Rattle.slot.proofs.Semi.{semi-same}
+use Rattle.slot.proofs.Places.{changes-words, changes-word}
+use Rattle.slot.proofs.Slot.{words-in, AllValid, bytes-slot-of, valid-slot}
+use Rattle.slot.proofs.Rule.{same-words, word-fits, word-semi-octets, verdict-only}
+
+-- ---- changed places
+
+same-at : (a b : ℕ) → unequal (eqb a b) ≡ 0 → a ≡ b
+same-at a b e = go (eqb a b) refl e
+  where
+    go : (t : Bool) → eqb a b ≡ t → unequal t ≡ 0 → a ≡ b
+    go true x y = eqb-true a b x
+    go false x y = absurd (omega arith)
+
+-- no changed place: the same slot
+pub no-changes : (size : ℕ) (s r : List ℕ) → Bytes size s → Bytes size r → changes size s r ≡ 0 → s ≡ r
+unfolding changes changed
+no-changes size s r a b e = semi-same s r size a b (λ p l. same-at (semi s p) (semi r p) (total-zero (changed s r) (2 * size) e p l))
+
+pub changes-self : (size : ℕ) (s : List ℕ) → changes size s s ≡ 0
+unfolding changes changed
+changes-self size s = total-nil (changed s s) (2 * size) (λ p l. ap unequal (eq-eqb (semi s p) (semi s p) refl))
+
+-- the changed places of word i, as places of the word
+word-changes : (size mode : ℕ) (s r : List ℕ) → InRange size mode → (i : ℕ) → i < words size
+    → changesIn size s r i ≡ apart (wordIn size mode s i) (wordIn size mode r i)
+unfolding wordIn
+word-changes size mode s r g i l = changes-word size (signature mode) s r i (g .size-from) l
+
+-- ---- one slot sent and one received
+
+module _ (size mode q : ℕ) (frame slot old : List ℕ) (taken : Taken size mode slot old) (sent : Sent size mode q frame) where
+  -- with at most m - 1 changes in each word, what was sent is the corrected slot
+  repaired : AtMost (mode - 1) size slot (slotOf size mode q frame) → Corrected size mode slot (slotOf size mode q frame)
+  repaired few =
+      let r = taken .range in
+      let made = slotOf size mode q frame in
+      record {
+        bytes = bytes-slot-of size mode q frame r;
+        near = λ i l. record {
+          semi-octets = word-semi-octets size mode made r i l;
+          long = words-in size mode made r .long i l ∙ sym (words-in size mode slot r .long i l);
+          valid = valid-slot size mode q frame r i l;
+          near = let c = word-changes size mode slot made r i l in let f = few i l in let m = r .mode-from in omega arith;
+        };
+      }
+
+  accepted : AtMost (mode - 1) size slot (slotOf size mode q frame)
+      → Unprotects size mode slot old frame 0 q (changes size slot (slotOf size mode q frame))
+  accepted few = record { taken = taken; sent = sent; corrected = repaired few; counted = refl }
+
+  -- nothing changed is at most m - 1
+  none-changed : changes size slot (slotOf size mode q frame) ≡ 0 → AtMost (mode - 1) size slot (slotOf size mode q frame)
+  none-changed e i l =
+      let r = taken .range in
+      let made = slotOf size mode q frame in
+      let t = sym (changes-words size (signature mode) slot made (r .size-from)) ∙ e in
+      let z = total-zero (λ i. apart (received size (signature mode) slot i) (received size (signature mode) made i)) (words size) t i l in
+      let c = changes-word size (signature mode) slot made i (r .size-from) l in
+      omega arith
+
+  slot-bytes : Bytes size slot
+  slot-bytes = record { long = taken .lengths .slot-long; below = taken .bytes }
+
+  -- a slot of valid words with at most 2m - 2 changes in each word is the one sent
+  unchanged : AllValid size mode slot → AtMost (2 * mode - 2) size slot (slotOf size mode q frame) → slot ≡ slotOf size mode q frame
+  unchanged v few =
+      let r = taken .range in
+      let made = slotOf size mode q frame in
+      same-words size mode slot made r slot-bytes (bytes-slot-of size mode q frame r)
+      (λ i l.
+      unique (distance mode) (wordIn size mode slot i) (wordIn size mode made i) (omega (arith, r .mode-to))
+      (words-in size mode slot r .long i l ∙ sym (words-in size mode made r .long i l))
+      (word-fits size mode slot r i l) (word-semi-octets size mode slot r i l) (word-semi-octets size mode made r i l)
+      (v i l) (valid-slot size mode q frame r i l)
+      (let c = word-changes size mode slot made r i l in let f = few i l in let m = r .mode-from in omega arith))
+
+  -- a slot that is called clean is of valid words
+  clean-valid : (new : List ℕ) (p n : ℕ) → IsAccepted size mode slot old new p n → n ≡ 0 → AllValid size mode slot
+  clean-valid new p n a z =
+      let r = taken .range in
+      let e = no-changes size slot (slotOf size mode p new) slot-bytes (bytes-slot-of size mode p new r) (sym (a .counted) ∙ z) in
+      rw e (valid-slot size mode p new r)
+
+  demand : (new : List ℕ) (number p n : ℕ) → Unprotects size mode slot old new number p n
+      → DemandThree size mode q frame (slotOf size mode q frame) slot new number p n
+  demand new number p n u = record {
+    repairs = λ few.
+        let s = verdict-only size mode slot old new frame number p n 0 q (changes size slot (slotOf size mode q frame)) u (accepted few) in
+        (s .number-same, s .frame-same, s .request-same, s .count-same);
+    clean = λ few. (
+      λ c.
+          let a : IsAccepted size mode slot old new p n = rw (c .0) at u in
+          rw (sym (unchanged (clean-valid new p n a (c .1)) few)) (changes-self size slot),
+      λ e.
+          let s = verdict-only size mode slot old new frame number p n 0 q (changes size slot (slotOf size mode q frame)) u (accepted (none-changed e)) in
+          (s .number-same, s .count-same ∙ e),
+    );
+  }
+
+-- demand 3: for every slot that protecting made, and every slot of that size that unprotecting is lent with a frame buffer of its length
+pub demand-three : (size mode q : ℕ) (frame lent sent slot old new : List ℕ) (number r n : ℕ)
+    → Protects size mode q frame lent sent 0
+    → Lengths size mode old slot → Below 256 slot → Unprotects size mode slot old new number r n
+    → DemandThree size mode q frame sent slot new number r n
+demand-three size mode q frame lent sent slot old new number r n p l b u =
+    let t : Taken size mode slot old = record { range = p .settings .range; lengths = l; bytes = b } in
+    let s : Sent size mode q frame = record
+    { request = p .settings .request; frame-bytes = record { long = p .lengths .frame-long; below = p .bytes } } in
+    rw (p .made) (demand size mode q frame slot old t s new number r n u)

@@ -1,0 +1,88 @@
+-- What the code of unprotecting asks at its returns: the answer from the words corrected and the heading compared, and demand 3 of two calls.
+-- Assumes nothing.
+use mathlib.Core.Path.{_≡_, sym, ap, ap₂, _∙_}
+use mathlib.Core.Bool.{Bool, true, false, not}
+use mathlib.Core.List.{List}
+use Prim.Native.Nat.{ℕ, zero, suc, _+_, _*_, _-_, _/_, _≤_}
+use native.Mathlib.Omega.{arith}
+use lib.ListN.{length, getD, take, drop, length-drop}
+use lib.Seq.{length-take-le, take-all}
+use borrow.Author.Tests.{not-true, not-false}
+use Rattle.laws.specs.Tab.{Below}
+use Rattle.laws.specs.Decides.{Decides}
+use Rattle.laws.proofs.Tab.{below-take}
+use Rattle.slot.specs.Sizes.{words, hash1, hash2, frameSize}
+use Rattle.slot.specs.Order.{mixed, Data}
+use Rattle.slot.specs.Slot.{slotWith}
+use Rattle.slot.specs.Protect.{Settings, Lengths, Protects}
+use Rattle.slot.specs.Unprotect.{Taken, Unprotects}
+use Rattle.slot.specs.Demand.{DemandThree}
+use Rattle.slot.specs.Back.{rolled, requestIn, restIn, Matches, requestOf, frameOf}
+use Rattle.slot.specs.Inner.{MendedTo}
+use Rattle.slot.proofs.Slot.{gathered-slot, requestFrom, frameFrom, HashesMatch}
+use Rattle.slot.proofs.Order.{data-mixed}
+use Rattle.slot.proofs.Rule.{accepts, refuses}
+use Rattle.slot.proofs.Demand.{demand-three}
+use Rattle.slot.proofs.PlaceSteps.{zeros-at}
+use Rattle.slot.proofs.ProtectSteps.{blanks}
+use Rattle.slot.proofs.ReceiveSteps.{corrected-slot, count-changes}
+
+-- room for the data
+pub data-blank : (size mode e : ℕ) → e ≡ 2 * hash1 size + 2 * hash2 size mode + 2 * frameSize size mode → e ≤ 800 → Data size mode (take e blanks)
+data-blank size mode e h l = record {
+  long = length-take-le e blanks l ∙ h;
+  below = below-take 16 e blanks (omega arith) (λ i. let z = zeros-at 800 i in omega arith);
+}
+
+-- the words mended, the swap undone, the heading compared
+module _ (size mode : ℕ) (slot old info order : List ℕ) (count : ℕ) (taken : Taken size mode slot old)
+    (mended : MendedTo size mode slot info (words size) count) (unmixed : order ≡ mixed size mode info) {r : Bool} (told : Decides (Matches size mode order) r) where
+  hashes : HashesMatch size mode (slotWith size mode info) ≡ Matches size mode order
+  unfolding HashesMatch
+  hashes =
+      ap (λ (s : List ℕ). Matches size mode (mixed size mode s)) (gathered-slot size mode info (taken .range) (mended .given))
+      ∙ ap (Matches size mode) (sym unmixed)
+
+  request-as : (q : ℕ) → q ≡ requestIn size order → q ≡ requestFrom size mode (slotWith size mode info)
+  unfolding requestFrom requestOf
+  request-as q f =
+      f ∙ ap (requestIn size) unmixed
+      ∙ ap (λ (s : List ℕ). requestIn size (mixed size mode s)) (sym (gathered-slot size mode info (taken .range) (mended .given)))
+
+  frame-as : (h : ℕ) (new : List ℕ) → h ≡ 2 * hash1 size + 2 * hash2 size mode → length order ≡ h + 2 * frameSize size mode
+      → new ≡ rolled (length old) (take (length order - h) (drop h order)) → new ≡ frameFrom size mode (slotWith size mode info)
+  unfolding frameFrom frameOf restIn
+  frame-as h new k l g =
+      let d = length-drop h order in
+      let t : take (length order - h) (drop h order) ≡ drop h order = take-all (length order - h) (drop h order) (omega arith) in
+      g ∙ ap₂ rolled (taken .lengths .frame-long) (t ∙ ap₂ drop k unmixed)
+      ∙ ap (λ (s : List ℕ). rolled (frameSize size mode) (drop (2 * hash1 size + 2 * hash2 size mode) (mixed size mode s)))
+      (sym (gathered-slot size mode info (taken .range) (mended .given)))
+
+  pub foreign-answer : not r ≡ true → Unprotects size mode slot old old 4 0 0
+  foreign-answer e =
+      refuses size mode slot old (slotWith size mode info) taken (corrected-slot size mode slot info count (taken .range) mended)
+      (rw hashes (told .fails (not-true r e)))
+
+  pub accepted-answer : (h q : ℕ) (new : List ℕ) → not r ≡ false → h ≡ 2 * hash1 size + 2 * hash2 size mode → length order ≡ h + 2 * frameSize size mode
+      → q ≡ requestIn size order → new ≡ rolled (length old) (take (length order - h) (drop h order)) → Unprotects size mode slot old new 0 q count
+  accepted-answer h q new e k l f g =
+      rw (frame-as h new k l g, request-as q f, count-changes size mode slot info count (taken .range) mended)
+      (accepts size mode slot old (slotWith size mode info) taken (corrected-slot size mode slot info count (taken .range) mended) (rw hashes (told .holds (not-false r e))))
+
+-- demand 3 follows from the two contracts
+pub carried : (size mode q : ℕ) (frame lent sent slot old new : List ℕ) (p number r n : ℕ) → Protects size mode q frame lent sent p → Below 256 slot
+    → Unprotects size mode slot old new number r n → Settings size mode q → Lengths size mode frame lent → Lengths size mode old slot
+    → DemandThree size mode q frame sent slot new number r n
+carried size mode q frame lent sent slot old new zero number r n p b u s l k = demand-three size mode q frame lent sent slot old new number r n p k b u
+carried size mode q frame lent sent slot old new (suc zero) number r n p b u s l k = absurd (p .unfit s)
+carried size mode q frame lent sent slot old new (suc (suc zero)) number r n p b u s l k = absurd (p .unfit l)
+carried size mode q frame lent sent slot old new (suc (suc (suc m))) number r n p b u s l k = absurd p
+
+-- the request as the code reads it
+pub request-is : (size f : ℕ) (order : List ℕ) → f ≡ hash1 size → getD order (2 * f - 1) 0 / 4 ≡ requestIn size order
+unfolding requestIn
+request-is size f order e = ap (λ (x : ℕ). getD order (2 * x - 1) 0 / 4) e
+
+pub data-unmixed : (size mode : ℕ) (info order : List ℕ) → Data size mode info → order ≡ mixed size mode info → Data size mode order
+data-unmixed size mode info order d e = rw e (data-mixed size mode info d)

@@ -1,0 +1,30 @@
+-- `slot::carry` meets its contract. Assumes nothing.
+use Rattle.slot.proofs.UnprotectSteps.{carried}
+use Rattle.slot.specs.Unprotect.{numberOf, requestOf, countOf}
+use Rattle.slot.specs.Protect.{numberOf as protectionNumber}
+use borrow.Author.Needs.{needs}
+use Rattle.slot.proofs.carry.Statement.{statement}
+use Rattle.slot.proofs.carry.Tie as tie
+
+protect-requires : tie.Need-protect-requires
+protect-requires c κs = search needs
+
+unprotect-requires : tie.Need-unprotect-requires
+unprotect-requires c κs = search needs
+
+same-length : tie.Need-same-length
+same-length c = search needs
+
+same-length-2 : tie.Need-same-length-2
+same-length-2 c = search needs
+
+returns : tie.Need-returns
+returns c =
+    let a = c .before .before .before .before .before .before .before .before .before .before .before .before .args in
+    let p = c .before .before .before .before .before .before .protect in
+    let u = c .before .before .unprotect in
+    λ s l k. carried (a .size) (a .mode) (a .request) (a .frame .now) (a .sent .now) (p .last .1 .1 .1 .1 .0) (a .slot .now) (a .out .now) (u .last .1 .1 .1 .0) (protectionNumber (p .result)) (numberOf (u .result)) (requestOf (u .result)) (countOf (u .result)) (p .ensures) (λ i. c .before .before .before .before .before .before .before .before .before .shared-slice-known2 .given i .fits) (u .ensures) s l k
+
+pub carry-spec : {M : Type 1} → statement M
+carry-spec =
+    tie.close (tie.spec protect-requires unprotect-requires same-length same-length-2 returns)

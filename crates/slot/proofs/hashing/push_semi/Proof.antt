@@ -1,0 +1,23 @@
+-- `slot::hashing::push_semi` meets its contract. Assumes nothing.
+use borrow.Author.Needs.{needs}
+use Rattle.slot.proofs.hashing.push_semi.Statement.{statement}
+use Rattle.slot.proofs.hashing.push_semi.Tie as tie
+
+push-requires : tie.Need-push-requires
+push-requires c κs = search needs
+
+push-requires-2 : tie.Need-push-requires-2
+push-requires-2 c κs = search needs
+
+push-requires-3 : tie.Need-push-requires-3
+push-requires-3 c κs = search needs
+
+push-requires-4 : tie.Need-push-requires-4
+push-requires-4 c κs = search needs
+
+returns : tie.Need-returns
+returns c = (cc, c .push4 .ensures .1)
+
+pub push-semi-spec : {M : Type 1} → statement M
+push-semi-spec =
+    tie.close (tie.spec push-requires push-requires-2 push-requires-3 push-requires-4 returns)

@@ -1,0 +1,21 @@
+-- Demand 3: what unprotecting answers about a slot that protecting made and that was changed on the way.
+-- Assumes nothing.
+use mathlib.Core.Path.{_≡_}
+use mathlib.Core.Logic.{_↔_}
+use mathlib.Core.List.{List}
+use Prim.Native.Nat.{ℕ, _-_, _*_}
+use Rattle.slot.specs.Changes.{changes, AtMost}
+use Rattle.slot.specs.Protect.{Settings, Lengths}
+use Rattle.slot.specs.Unprotect.{Clean}
+
+-- protecting made `sent` of the frame and the request q; unprotecting was lent `slot`, and answered the number, the frame `new`, the request r and the count n
+pub record DemandThree (size mode q : ℕ) (frame sent slot new : List ℕ) (number r n : ℕ) : Type 0 where
+  -- with at most m - 1 changed semi-octets in each word: the sender's frame and request come back, and the count is that of all changed places
+  pub repairs : AtMost (mode - 1) size slot sent → (number ≡ 0) × (new ≡ frame) × (r ≡ q) × (n ≡ changes size slot sent)
+  -- with at most 2m - 2 in each word: called clean exactly when nothing was changed
+  pub clean : AtMost (2 * mode - 2) size slot sent → Clean number n ↔ (changes size slot sent ≡ 0)
+
+-- a call of protecting and one of unprotecting, of one size and mode, of which neither gets 1 or 2
+abbrev pub Carried : ℕ → ℕ → ℕ → List ℕ → List ℕ → List ℕ → List ℕ → List ℕ → List ℕ → ℕ → ℕ → ℕ → Type 0
+Carried size mode q frame lent sent slot old new number r n =
+    Settings size mode q → Lengths size mode frame lent → Lengths size mode old slot → DemandThree size mode q frame sent slot new number r n

@@ -1,0 +1,62 @@
+-- What the private functions promise one another: no part of what is right of a slot.
+-- Assumes nothing.
+use mathlib.Core.Path.{_≡_}
+use mathlib.Core.List.{List}
+use Prim.Native.Nat.{ℕ, _-_, _*_, _≤_, _<_}
+use lib.ListN.{length, getD, drop}
+use Rattle.laws.specs.Tab.{total, Below}
+use Rattle.gf16.specs.Field.{sum}
+use Rattle.code_word.specs.Word.{apart}
+use Rattle.code_word.specs.Correct.{Near}
+use Rattle.slot.specs.Sizes.{words, wordLength}
+use Rattle.slot.specs.Words.{piece, dataWord, placeOf, wordOf, numberIn}
+use Rattle.slot.specs.Order.{Data}
+use Rattle.slot.specs.Slot.{codeWord, wordIn}
+use Rattle.slot.specs.Unprotect.{SomeBeyond}
+use Rattle.slot.specs.declared.Repair.{Repair}
+use Rattle.slot.specs.declared.Repair.the-variants.{Repaired, Beyond}
+
+-- the word w, with the signature g, stands at the places of word i, and nothing else was changed
+pub record Scattered (size : ℕ) (g : ℕ → ℕ → ℕ) (i : ℕ) (w old new : List ℕ) : Type 0 where
+  pub long : length new ≡ length old
+  pub mine : (k : ℕ) → k < length w → getD new (placeOf size i k) 0 ≡ sum (getD w k 0) (g i k)
+  pub others : (p : ℕ) → p < 2 * size → (wordOf size p ≡ i → ⊥) → getD new p 0 ≡ getD old p 0
+
+-- the first n words stand at their places
+pub record Placed (size : ℕ) (g : ℕ → ℕ → ℕ) (w : ℕ → List ℕ) (n : ℕ) (places : List ℕ) : Type 0 where
+  pub long : length places ≡ 800
+  pub stands : (p : ℕ) → p < 2 * size → wordOf size p < n
+      → getD places p 0 ≡ sum (getD (w (wordOf size p)) (numberIn size p) 0) (g (wordOf size p) (numberIn size p))
+
+-- every word as received, one after the other
+pub record AllArrived (size mode : ℕ) (slot all : List ℕ) : Type 0 where
+  pub long : length all ≡ 2 * size
+  pub below : Below 16 all
+  pub each : (i : ℕ) → i < words size → piece (wordLength size) all i ≡ wordIn size mode slot i
+
+-- the first n words have a count, the sum of them is the count, and the data of these words stand where they belong
+pub record GatheredTo (size mode : ℕ) (all counts info : List ℕ) (n count : ℕ) : Type 0 where
+  pub given : Data size mode info
+  pub each : (j : ℕ) → j < n → dataWord size mode info j ≡ drop (2 * (mode - 1)) (piece (wordLength size) all j)
+  pub few : (j : ℕ) → j < n → getD counts j 0 < mode
+  pub counted : count ≡ total (λ j. getD counts j 0) n
+
+-- some word has no count
+pub record SomeNone (size mode : ℕ) (counts : List ℕ) : Type 0 where
+  pub word : ℕ
+  pub inside : word < words size
+  pub none : mode ≤ getD counts word 0
+
+abbrev pub IsGathered : ℕ → ℕ → List ℕ → List ℕ → List ℕ → Repair → Type 0
+IsGathered size mode all counts info (Repaired n) = GatheredTo size mode all counts info (words size) n
+IsGathered size mode all counts info Beyond = SomeNone size mode counts
+
+-- the first n words were corrected, and the data hold them
+pub record MendedTo (size mode : ℕ) (slot info : List ℕ) (n count : ℕ) : Type 0 where
+  pub given : Data size mode info
+  pub near : (j : ℕ) → j < n → Near mode (wordIn size mode slot j) (codeWord size mode info j)
+  pub counted : count ≡ total (λ j. apart (wordIn size mode slot j) (codeWord size mode info j)) n
+
+abbrev pub IsRepair : ℕ → ℕ → List ℕ → List ℕ → Repair → Type 0
+IsRepair size mode slot info (Repaired n) = MendedTo size mode slot info (words size) n
+IsRepair size mode slot info Beyond = SomeBeyond size mode slot

@@ -1,0 +1,52 @@
+-- What protecting answers: document 01's number for each case of the enum, and what each number promises.
+-- Assumes nothing.
+use mathlib.Core.Path.{_≡_}
+use mathlib.Core.List.{List}
+use Prim.Native.Nat.{ℕ, zero, suc, _<_}
+use lib.ListN.{length}
+use Rattle.laws.specs.Tab.{Below}
+use Rattle.slot.specs.Sizes.{InRange, frameSize}
+use Rattle.slot.specs.Slot.{slotOf}
+use Rattle.slot.specs.declared.Protection.{Protection}
+use Rattle.slot.specs.declared.Protection.the-variants.{Protected, Setting, Length}
+
+-- the settings: slot size, mode and request
+pub record Settings (size mode q : ℕ) : Type 0 where
+  pub range : InRange size mode
+  pub request : q < 4
+
+-- the lent buffers: the frame and the slot
+pub record Lengths (size mode : ℕ) (frame slot : List ℕ) : Type 0 where
+  pub frame-long : length frame ≡ frameSize size mode
+  pub slot-long : length slot ≡ size
+
+-- the slot left is the one that Annex A makes
+pub record IsProtected (size mode q : ℕ) (frame old new : List ℕ) : Type 0 where
+  pub settings : Settings size mode q
+  pub lengths : Lengths size mode frame old
+  pub bytes : Below 256 frame
+  pub made : new ≡ slotOf size mode q frame
+
+-- a setting is out of range
+pub record BadSetting (size mode q : ℕ) (old new : List ℕ) : Type 0 where
+  pub unfit : Settings size mode q → ⊥
+  pub kept : new ≡ old
+
+-- the settings are in range, and a buffer hasn't its length
+pub record BadLength (size mode q : ℕ) (frame old new : List ℕ) : Type 0 where
+  pub settings : Settings size mode q
+  pub unfit : Lengths size mode frame old → ⊥
+  pub kept : new ≡ old
+
+-- 0: protected; 1: a setting is out of range; 2: a buffer hasn't its length
+abbrev pub numberOf : Protection → ℕ
+numberOf Protected = 0
+numberOf Setting = 1
+numberOf Length = 2
+
+-- the promise: the slot lent, the slot left, and the number
+abbrev pub Protects : ℕ → ℕ → ℕ → List ℕ → List ℕ → List ℕ → ℕ → Type 0
+Protects size mode q frame old new zero = IsProtected size mode q frame old new
+Protects size mode q frame old new (suc zero) = BadSetting size mode q old new
+Protects size mode q frame old new (suc (suc zero)) = BadLength size mode q frame old new
+Protects size mode q frame old new (suc (suc (suc n))) = ⊥

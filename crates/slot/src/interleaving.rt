@@ -1,0 +1,110 @@
+// Words to their places in the slot and back (A.38, A.46 to A.52): the mode signature, the interleaving, the bytes.
+ghost use mathlib.Core.Path.{_≡_};
+ghost use Prim.Native.Nat.{ℕ, _+_, _*_, _≤_, _<_};
+ghost use lib.ListN.{length, getD, take, drop};
+ghost use Rattle.slot.specs.Sizes.{InRange, words, wordLength, dataLength};
+ghost use Rattle.slot.specs.Semi.{pack};
+ghost use Rattle.slot.specs.Words.{signature};
+ghost use Rattle.slot.specs.Order.{Data};
+ghost use Rattle.slot.specs.Slot.{codeWord, slotWith};
+ghost use Rattle.slot.specs.Inner.{Scattered};
+ghost use Rattle.laws.specs.Tab.{total};
+use crate::geometry;
+
+// A.47, A.48 and A.49.
+const TWO: [u8; 15] = [7, 15, 5, 6, 14, 9, 1, 3, 12, 10, 13, 3, 2, 0, 0];
+
+const THREE: [u8; 15] = [7, 11, 14, 1, 2, 3, 12, 11, 6, 15, 7, 6, 12, 0, 0];
+
+const FOUR: [u8; 15] = [6, 15, 12, 2, 9, 15, 2, 8, 12, 3, 10, 5, 4, 0, 0];
+
+// What the signature adds to word i.
+pub fn signature_row(mode: usize, i: usize) -> [u8; 15]
+    requires { ⌜ (2 ≤ mode) × (mode ≤ 4) ⌝ }
+    ensures { λ r. ⌜ (length r ≡ 15) × ((k : ℕ) → getD r k 0 ≡ signature mode i k) ⌝ }
+{
+    if 6 <= i {
+        return [0; 15];
+    }
+    match mode {
+        2 => TWO,
+        3 => THREE,
+        _ => FOUR,
+    }
+}
+
+// A part of a row, as long as there is room for.
+pub fn copy_part(from: &[u8], at: usize, out: &mut [u8])
+    requires { ⌜ at + length (now out) ≤ length (now from) ⌝ }
+    ensures { λ _. ⌜ now (out .exit) ≡ take (length (now (out .entry))) (drop at (now (from .entry))) ⌝ }
+{
+    let mut k: usize = 0;
+    while k < out.len() {
+        out[k] = from[at + k];
+        k = k + 1;
+    }
+}
+
+// The semi-octets of word i, with the signature's row added, to their places.
+fn scatter(size: usize, i: usize, mode: usize, w: &[u8], row: &[u8], places: &mut [u8])
+    requires { ⌜ (InRange size mode) × (i < words size) × (length (now w) ≡ wordLength size i) × (length (now row) ≡ 15) × (length (now places) ≡ 800) × ((k : ℕ) → getD (now row) k 0 ≡ signature mode i k) ⌝ }
+    ensures { λ _. ⌜ Scattered size (signature mode) i (now (w .entry)) (now (places .entry)) (now (places .exit)) ⌝ }
+{
+    let count = geometry::word_count(size);
+    let mut k: usize = 0;
+    while k < w.len() {
+        places[2 * size - count * k - i - 1] = w[k] ^ row[k];
+        k = k + 1;
+    }
+}
+
+// Two places to a byte (A.52).
+fn pack_bytes(places: &[u8], slot: &mut [u8])
+    requires { ⌜ (2 * length (now slot) ≤ length (now places)) × (length (now slot) ≤ 400) × ((p : ℕ) → p < 2 * length (now slot) → getD (now places) p 0 < 16) ⌝ }
+    ensures { λ _. ⌜ now (slot .exit) ≡ pack (λ p. getD (now (places .entry)) p 0) (length (now (slot .entry))) ⌝ }
+{
+    let mut j: usize = 0;
+    while j < slot.len() {
+        slot[j] = places[2 * j] + 16 * places[2 * j + 1];
+        j = j + 1;
+    }
+}
+
+// Code word i over its data, to its places.
+fn place_word(
+    size: usize,
+    mode: usize,
+    i: usize,
+    at: usize,
+    info: &[u8],
+    w: &mut [u8],
+    places: &mut [u8],
+)
+    requires { ⌜ (InRange size mode) × (i < words size) × (at ≡ total (dataLength size mode) i) × (Data size mode (now info)) × (length (now w) ≡ wordLength size i) × (length (now places) ≡ 800) ⌝ }
+    ensures { λ _. ⌜ Scattered size (signature mode) i (codeWord size mode (now (info .entry)) i) (now (places .entry)) (now (places .exit)) ⌝ }
+{
+    let checks = 2 * (mode - 1);
+    copy_part(info, at, &mut w[checks..]);
+    code_word::make(w, mode as u32);
+    let row = signature_row(mode, i);
+    scatter(size, i, mode, w, &row, places);
+}
+
+// The slot with these data.
+pub fn write_slot(size: usize, mode: usize, info: &[u8], slot: &mut [u8])
+    requires { ⌜ (InRange size mode) × (Data size mode (now info)) × (length (now slot) ≡ size) ⌝ }
+    ensures { λ _. ⌜ now (slot .exit) ≡ slotWith size mode (now (info .entry)) ⌝ }
+{
+    let count = geometry::word_count(size);
+    let mut w = [0u8; 15];
+    let mut places = [0u8; 800];
+    let mut at: usize = 0;
+    let mut i: usize = 0;
+    while i < count {
+        let e = geometry::word_length(size, count, i);
+        place_word(size, mode, i, at, info, &mut w[..e], &mut places);
+        at = at + (e - 2 * (mode - 1));
+        i = i + 1;
+    }
+    pack_bytes(&places, slot);
+}

@@ -1,0 +1,160 @@
+// One slot of Annex A.1 over the code words (crate `code_word`): protecting a frame, and unprotecting what was received, the mode told.
+// Promised for every input: `protect` leaves exactly the slot that specs/ makes step by step in the annex's order, or refuses with 1 or 2;
+// `unprotect` answers by document 01's rule, which leaves no choice, and writes the frame on 0 alone; `carry` is demand 3 of the two.
+ghost use mathlib.Core.Path.{_≡_};
+ghost use Prim.Native.Nat.{_<_};
+ghost use lib.ListN.{length};
+ghost use Rattle.slot.specs.Sizes.{InRange, IsFrameSize, frameSize};
+ghost use Rattle.slot.specs.Order.{Data};
+ghost use Rattle.slot.specs.Protect as protecting;
+ghost use Rattle.slot.specs.Unprotect as unprotecting;
+ghost use Rattle.slot.specs.Demand.{Carried};
+
+mod geometry;
+mod hashing;
+mod interleaving;
+mod ordering;
+mod receiving;
+
+// Whether a slot was made; document 01's 0, 1 and 2.
+pub enum Protection {
+    Protected,
+    Setting,
+    Length,
+}
+
+// What unprotecting found: the request and the count of changed semi-octets, or document 01's refusal 1, 2, 3 or 4.
+pub enum Reception {
+    Accepted(u8, u16),
+    Setting,
+    Length,
+    Beyond,
+    Foreign,
+}
+
+// Whether every word was corrected: the count of all changes, or a word beyond repair.
+enum Repair {
+    Repaired(u16),
+    Beyond,
+}
+
+// The bytes of a frame in a slot of this size; 0 where a setting is out of range.
+pub fn frame_size(size: usize, mode: u32) -> usize
+    ensures { λ r. ⌜ IsFrameSize size mode r ⌝ }
+{
+    match size {
+        40..=400 => match mode {
+            2..=4 => geometry::frame_bytes(size, mode as usize),
+            _ => 0,
+        },
+        _ => 0,
+    }
+}
+
+// Annex A's slot of a frame and a request.
+pub fn protect(size: usize, mode: u32, request: u32, frame: &[u8], slot: &mut [u8]) -> Protection
+    ensures { λ r. ⌜ protecting.Protects size mode request (now (frame .entry)) (now (slot .entry)) (now (slot .exit)) (protecting.numberOf r) ⌝ }
+{
+    match size {
+        40..=400 => match mode {
+            2..=4 => match request {
+                0..=3 => protect_sized(size, mode as usize, request, frame, slot),
+                _ => Protection::Setting,
+            },
+            _ => Protection::Setting,
+        },
+        _ => Protection::Setting,
+    }
+}
+
+fn protect_sized(
+    size: usize,
+    mode: usize,
+    request: u32,
+    frame: &[u8],
+    slot: &mut [u8],
+) -> Protection
+    requires { ⌜ (InRange size mode) × (request < 4) ⌝ }
+    ensures { λ r. ⌜ protecting.Protects size mode request (now (frame .entry)) (now (slot .entry)) (now (slot .exit)) (protecting.numberOf r) ⌝ }
+{
+    let n = geometry::frame_bytes(size, mode);
+    if frame.len() != n {
+        return Protection::Length;
+    }
+    if slot.len() != size {
+        return Protection::Length;
+    }
+    let e = 2 * geometry::first_hash_size(size)
+        + 2 * geometry::second_hash_size(size, mode)
+        + 2 * n;
+    let mut info = [0u8; 800];
+    ordering::arrange(size, mode, request, frame, &mut info[..e]);
+    interleaving::write_slot(size, mode, &info[..e], slot);
+    Protection::Protected
+}
+
+// What was received, by document 01's rule, the mode told.
+pub fn unprotect(size: usize, mode: u32, slot: &[u8], frame: &mut [u8]) -> Reception
+    ensures { λ r. ⌜ unprotecting.Unprotects size mode (now (slot .entry)) (now (frame .entry)) (now (frame .exit)) (unprotecting.numberOf r) (unprotecting.requestOf r) (unprotecting.countOf r) ⌝ }
+{
+    match size {
+        40..=400 => match mode {
+            2..=4 => unprotect_sized(size, mode as usize, slot, frame),
+            _ => Reception::Setting,
+        },
+        _ => Reception::Setting,
+    }
+}
+
+fn unprotect_sized(size: usize, mode: usize, slot: &[u8], frame: &mut [u8]) -> Reception
+    requires { ⌜ InRange size mode ⌝ }
+    ensures { λ r. ⌜ unprotecting.Unprotects size mode (now (slot .entry)) (now (frame .entry)) (now (frame .exit)) (unprotecting.numberOf r) (unprotecting.requestOf r) (unprotecting.countOf r) ⌝ }
+{
+    let n = geometry::frame_bytes(size, mode);
+    if frame.len() != n {
+        return Reception::Length;
+    }
+    if slot.len() != size {
+        return Reception::Length;
+    }
+    let e = 2 * geometry::first_hash_size(size)
+        + 2 * geometry::second_hash_size(size, mode)
+        + 2 * n;
+    let mut info = [0u8; 800];
+    judge(size, mode, slot, &mut info[..e], frame)
+}
+
+// Every word corrected, then the heading compared, then the frame written; info is room for the data.
+fn judge(size: usize, mode: usize, slot: &[u8], info: &mut [u8], frame: &mut [u8]) -> Reception
+    requires { ⌜ (InRange size mode) × (length (now slot) ≡ size) × (Data size mode (now info)) × (length (now frame) ≡ frameSize size mode) ⌝ }
+    ensures { λ r. ⌜ unprotecting.Unprotects size mode (now (slot .entry)) (now (frame .entry)) (now (frame .exit)) (unprotecting.numberOf r) (unprotecting.requestOf r) (unprotecting.countOf r) ⌝ }
+{
+    let Repair::Repaired(count) = receiving::mend_all(size, mode, slot, info) else {
+        return Reception::Beyond;
+    };
+    ordering::mix(size, mode, info);
+    let at = 2 * geometry::first_hash_size(size) - 1;
+    let request = info[at] / 4;
+    if !receiving::matches(size, mode, request as u32, info) {
+        return Reception::Foreign;
+    }
+    let h = 2 * geometry::first_hash_size(size) + 2 * geometry::second_hash_size(size, mode);
+    receiving::roll(&info[h..], frame);
+    Reception::Accepted(request, count)
+}
+
+// Demand 3 of the running code: a slot is protected, and whatever was received in its place is unprotected.
+pub fn carry(
+    size: usize,
+    mode: u32,
+    request: u32,
+    frame: &[u8],
+    sent: &mut [u8],
+    slot: &[u8],
+    out: &mut [u8],
+) -> Reception
+    ensures { λ r. ⌜ Carried size mode request (now (frame .entry)) (now (sent .entry)) (now (sent .exit)) (now (slot .entry)) (now (out .entry)) (now (out .exit)) (unprotecting.numberOf r) (unprotecting.requestOf r) (unprotecting.countOf r) ⌝ }
+{
+    protect(size, mode, request, frame, sent);
+    unprotect(size, mode, slot, out)
+}

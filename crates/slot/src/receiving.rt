@@ -1,0 +1,157 @@
+// What was received (A.53 to A.55): the words taken from their places, all corrected in one call,
+// and their data put in order; then the heading compared.
+ghost use mathlib.Core.Path.{_≡_};
+ghost use Prim.Native.Nat.{ℕ, _+_, _*_, _≤_, _<_};
+ghost use lib.ListN.{length, getD, take, drop};
+ghost use Rattle.laws.specs.Tab.{Below};
+ghost use Rattle.laws.specs.Decides.{Decides};
+ghost use Rattle.slot.specs.Sizes.{InRange, words, wordLength, hash1, hash2, frameSize};
+ghost use Rattle.slot.specs.Semi.{semi};
+ghost use Rattle.slot.specs.Words.{signature};
+ghost use Rattle.slot.specs.Order.{Data};
+ghost use Rattle.slot.specs.Slot.{wordIn};
+ghost use Rattle.slot.specs.Inner.{AllArrived, IsGathered, IsRepair};
+ghost use Rattle.slot.specs.Back.{rolled, requestIn, Matches};
+use crate::Repair;
+use crate::geometry;
+use crate::interleaving;
+use crate::ordering;
+
+// The semi-octet at place p.
+fn semi_at(slot: &[u8], p: usize) -> u8
+    requires { ⌜ p < 2 * length (now slot) ⌝ }
+    ensures { λ r. ⌜ (r ≡ semi (now (slot .entry)) p) × (r < 16) ⌝ }
+{
+    let b = slot[p / 2];
+    if p % 2 == 0 { b % 16 } else { b / 16 }
+}
+
+// Word i as received.
+fn receive(size: usize, i: usize, mode: usize, slot: &[u8], row: &[u8], w: &mut [u8])
+    requires { ⌜ (InRange size mode) × (i < words size) × (length (now slot) ≡ size) × (length (now row) ≡ 15) × (length (now w) ≡ wordLength size i) × ((k : ℕ) → getD (now row) k 0 ≡ signature mode i k) ⌝ }
+    ensures { λ _. ⌜ now (w .exit) ≡ wordIn size mode (now (slot .entry)) i ⌝ }
+{
+    let count = geometry::word_count(size);
+    let mut k: usize = 0;
+    while k < w.len() {
+        w[k] = semi_at(slot, 2 * size - count * k - i - 1) ^ row[k];
+        k = k + 1;
+    }
+}
+
+// The words as received, one after the other.
+fn receive_all(size: usize, mode: usize, slot: &[u8], all: &mut [u8])
+    requires { ⌜ (InRange size mode) × (length (now slot) ≡ size) × (length (now all) ≡ 2 * size) ⌝ }
+    ensures { λ _. ⌜ AllArrived size mode (now (slot .entry)) (now (all .exit)) ⌝ }
+{
+    let count = geometry::word_count(size);
+    let mut at: usize = 0;
+    let mut i: usize = 0;
+    while i < count {
+        let e = at + geometry::word_length(size, count, i);
+        let row = interleaving::signature_row(mode, i);
+        receive(size, i, mode, slot, &row, &mut all[at..e]);
+        at = e;
+        i = i + 1;
+    }
+}
+
+// The data of every word put where they belong, and the counts added; or a word has no count.
+fn gather(size: usize, mode: usize, all: &[u8], counts: &[u8], info: &mut [u8]) -> Repair
+    requires { ⌜ (InRange size mode) × (length (now all) ≡ 2 * size) × (Below 16 (now all)) × (length (now counts) ≡ words size) × (Data size mode (now info)) ⌝ }
+    ensures { λ r. ⌜ IsGathered size mode (now (all .entry)) (now (counts .entry)) (now (info .exit)) r ⌝ }
+{
+    let checks = 2 * (mode - 1);
+    let mut from: usize = 0;
+    let mut at: usize = 0;
+    let mut sum: u16 = 0;
+    let mut i: usize = 0;
+    while i < counts.len() {
+        let n = counts[i];
+        if mode <= n as usize {
+            return Repair::Beyond;
+        }
+        let long = geometry::word_length(size, counts.len(), i);
+        let e = at + (long - checks);
+        interleaving::copy_part(all, from + checks, &mut info[at..e]);
+        sum = sum + n as u16;
+        from = from + long;
+        at = e;
+        i = i + 1;
+    }
+    Repair::Repaired(sum)
+}
+
+// Every word corrected, with room lent for the words and for a count a word.
+fn mend_with(
+    size: usize,
+    mode: usize,
+    slot: &[u8],
+    all: &mut [u8],
+    counts: &mut [u8],
+    info: &mut [u8],
+) -> Repair
+    requires { ⌜ (InRange size mode) × (length (now slot) ≡ size) × (length (now all) ≡ 2 * size) × (length (now counts) ≡ words size) × (Data size mode (now info)) ⌝ }
+    ensures { λ r. ⌜ IsRepair size mode (now (slot .entry)) (now (info .exit)) r ⌝ }
+{
+    receive_all(size, mode, slot, all);
+    code_word::correct_each(all, mode as u32, counts);
+    gather(size, mode, all, counts, info)
+}
+
+// Every word corrected.
+pub fn mend_all(size: usize, mode: usize, slot: &[u8], info: &mut [u8]) -> Repair
+    requires { ⌜ (InRange size mode) × (length (now slot) ≡ size) × (Data size mode (now info)) ⌝ }
+    ensures { λ r. ⌜ IsRepair size mode (now (slot .entry)) (now (info .exit)) r ⌝ }
+{
+    let count = geometry::word_count(size);
+    let mut all = [0u8; 800];
+    let mut counts = [0u8; 54];
+    mend_with(
+        size,
+        mode,
+        slot,
+        &mut all[..2 * size],
+        &mut counts[..count],
+        info,
+    )
+}
+
+// Whether two rows of one length are the same.
+fn same(a: &[u8], b: &[u8]) -> bool
+    requires { ⌜ length (now a) ≡ length (now b) ⌝ }
+    ensures { λ r. ⌜ Decides (now (a .entry) ≡ now (b .entry)) r ⌝ }
+{
+    let mut i: usize = 0;
+    while i < a.len() {
+        if a[i] != b[i] {
+            return false;
+        }
+        i = i + 1;
+    }
+    true
+}
+
+// Whether the heading is the one that the request and the frame's semi-octets make.
+pub fn matches(size: usize, mode: usize, request: u32, info: &[u8]) -> bool
+    requires { ⌜ (InRange size mode) × (request ≡ requestIn size (now info)) × (Data size mode (now info)) ⌝ }
+    ensures { λ r. ⌜ Decides (Matches size mode (now (info .entry))) r ⌝ }
+{
+    let h = 2 * geometry::first_hash_size(size) + 2 * geometry::second_hash_size(size, mode);
+    let mut head = [0u8; 10];
+    ordering::put_heading(size, mode, request, &info[h..], &mut head[..h]);
+    same(&head[..h], &info[..h])
+}
+
+// The frame of its semi-octets.
+pub fn roll(a: &[u8], frame: &mut [u8])
+    requires { ⌜ (length (now a) ≡ 2 * length (now frame)) × (length (now frame) ≤ 400) × (Below 16 (now a)) ⌝ }
+    ensures { λ _. ⌜ now (frame .exit) ≡ rolled (length (now (frame .entry))) (now (a .entry)) ⌝ }
+{
+    let n = frame.len();
+    let mut j: usize = 0;
+    while j < n {
+        frame[j] = a[2 * n - 1 - 2 * j] + 16 * a[2 * n - 1 - (2 * j + 1)];
+        j = j + 1;
+    }
+}
