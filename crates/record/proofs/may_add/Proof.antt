@@ -1,0 +1,56 @@
+-- `record::may_add` meets its contract, test by test. Assumes nothing.
+use mathlib.Core.Path.{_∙_}
+use native.Mathlib.Omega.{arith}
+use borrow.Author.Needs.{needs}
+use Rattle.record.proofs.may_add.Tie as tie
+use Rattle.record.proofs.Answered.{may-add-above, may-add-most, may-add-yes, may-add-other}
+use Rattle.record.proofs.may_add.Statement.{statement}
+
+wide4-requires : tie.Need-wide4-requires
+wide4-requires c κs = search needs
+
+wide4-requires-2 : tie.Need-wide4-requires-2
+wide4-requires-2 c κs = search needs
+
+wide4-requires-3 : tie.Need-wide4-requires-3
+wide4-requires-3 c κs = search needs
+
+wide4-requires-4 : tie.Need-wide4-requires-4
+wide4-requires-4 c κs = search needs
+
+in-range-requires : tie.Need-in-range-requires
+in-range-requires c κs = search needs
+
+returns : tie.Need-returns
+returns c =
+    let a = c .before .before .before .before .before .before .before .before .args in
+    c .in-range .ensures ∙ rw (c .before .before .before .wide42 .ensures, c .before .before .wide43 .ensures, c .before .wide44 .ensures) (may-add-yes (a .used) (a .room) (a .frame) (a .request) (a .count) (a .length) (omega arith) (omega arith) (omega arith))
+
+returns-2 : tie.Need-returns-2
+returns-2 c =
+    let a = c .before .before .before .before .args in
+    may-add-other (a .used) (a .room) (a .frame) (a .request) (a .count) (a .length) (λ e. c .if3 .left (c .before .wide4 .ensures ∙ e))
+
+returns-3 : tie.Need-returns-3
+returns-3 c =
+    let a = c .before .before .args in
+    may-add-most (a .used) (a .room) (a .frame) (a .request) (a .count) (a .length) (c .if2 .left)
+
+returns-4 : tie.Need-returns-4
+returns-4 c =
+    let a = c .before .args in
+    may-add-above (a .used) (a .room) (a .frame) (a .request) (a .count) (a .length) (c .if1 .left)
+
+pub may-add-spec : {M : Type 1} → statement M
+may-add-spec =
+    tie.close
+    (tie.spec
+    wide4-requires
+    wide4-requires-2
+    wide4-requires-3
+    wide4-requires-4
+    in-range-requires
+    returns
+    returns-2
+    returns-3
+    returns-4)

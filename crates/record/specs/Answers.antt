@@ -1,0 +1,144 @@
+-- What each function answers: document 01's number with the values beside it, for each case of its answer and for all input.
+-- "A refusal returns its number, zero in every other field, and no lent byte is changed." Assumes nothing.
+use mathlib.Core.Bool.{Bool, _&&_, cond}
+use mathlib.Core.Option.{Option, none, some}
+use mathlib.Core.List.{List, [], _∷_, _++_}
+use Prim.Native.Nat.{ℕ, zero, suc, _+_}
+use lib.ListN.{length, take, drop}
+use lib.Dec.{leb, ltb, eqb}
+use Rattle.record.specs.Layout.{RecordEntry, recordBytes, inRange, most}
+use Rattle.record.specs.Reading.{readRecord}
+use Rattle.record.specs.declared.Made.{Made}
+use Rattle.record.specs.declared.Made.the-variants as made
+use Rattle.record.specs.declared.Counted.{Counted}
+use Rattle.record.specs.declared.Counted.the-variants as counted
+use Rattle.record.specs.declared.Found.{Found}
+use Rattle.record.specs.declared.Found.the-variants as found
+use Rattle.record.specs.declared.Added.{Added}
+use Rattle.record.specs.declared.Added.the-variants as added
+use Rattle.record.specs.declared.Located.{Located}
+
+-- a number of document 01, and the one value that goes with it
+pub record Answer : Type 0 where
+  pub number : ℕ
+  pub value : ℕ
+
+abbrev pub accepted : ℕ → Answer
+accepted v = record { number = 0; value = v }
+
+abbrev pub refused : ℕ → Answer
+refused n = record { number = n; value = 0 }
+
+-- a number of document 01, and an entry's start, length, request and count
+pub record EntryAnswer : Type 0 where
+  pub number : ℕ
+  pub entry : Located
+
+abbrev pub nowhere : Located
+nowhere = record { start = 0; length = 0; request = 0; count = 0 }
+
+-- ---- the numbers of each case
+
+abbrev pub madeNumber : Made → ℕ
+madeNumber made.Empty = 0
+madeNumber made.NoRoom = 6
+
+-- the value is the number of entries
+abbrev pub countedAnswer : Counted → Answer
+countedAnswer (counted.Entries n) = accepted n
+countedAnswer counted.NotRecord = refused 7
+
+abbrev pub foundAnswer : Found → EntryAnswer
+foundAnswer (found.At e) = record { number = 0; entry = e }
+foundAnswer found.NotRecord = record { number = 7; entry = nowhere }
+foundAnswer found.NoPlace = record { number = 1; entry = nowhere }
+
+-- the value is the new used length
+abbrev pub addedAnswer : Added → Answer
+addedAnswer (added.Used n) = accepted n
+addedAnswer added.BadSetting = refused 1
+addedAnswer added.NotRecord = refused 7
+addedAnswer added.NoRoom = refused 6
+
+-- ---- a new record
+
+-- "in a buffer shorter than 4 gives 6"
+unfoldable pub newNumber : List ℕ → ℕ
+newNumber buffer = cond (leb 4 (length buffer)) 0 6
+
+-- "making one writes those and leaves the rest"
+unfoldable pub newBuffer : List ℕ → List ℕ
+newBuffer buffer = cond (leb 4 (length buffer)) (recordBytes [] ++ drop 4 buffer) buffer
+
+-- ---- the number of entries
+
+abbrev pub entriesOf : Option (List RecordEntry) → Answer
+entriesOf none = refused 7
+entriesOf (some es) = accepted (length es)
+
+unfoldable pub entriesAnswer : List ℕ → Answer
+entriesAnswer s = entriesOf (readRecord s)
+
+-- ---- an entry by place, "the oldest being 0"
+
+-- an entry's fields, with the place where its frame starts
+abbrev pub located : RecordEntry → ℕ → Located
+located e start = record { start = start; length = length (e .frame); request = e .request; count = e .count }
+
+-- of the entry at `place` among those that stand from `start` on: where its frame stands, and its fields
+abbrev pub locate : List RecordEntry → ℕ → ℕ → Located
+locate [] place start = nowhere
+locate (e ∷ es) zero start = located e start
+locate (e ∷ es) (suc place) start = locate es place (start + (length (e .frame) + 4))
+
+-- "a place that isn't below the number of entries is a 1, checked after the 7"
+abbrev pub entryOf : Option (List RecordEntry) → ℕ → EntryAnswer
+entryOf none place = record { number = 7; entry = nowhere }
+entryOf (some es) place = record { number = cond (ltb place (length es)) 0 1; entry = locate es place 0 }
+
+unfoldable pub entryAnswer : List ℕ → ℕ → EntryAnswer
+entryAnswer s place = entryOf (readRecord s) place
+
+-- the frame of the entry at `place`; no bytes where there is none
+abbrev pub frameAt : List RecordEntry → ℕ → List ℕ
+frameAt [] place = []
+frameAt (e ∷ es) zero = e .frame
+frameAt (e ∷ es) (suc place) = frameAt es place
+
+abbrev pub frameOf : Option (List RecordEntry) → ℕ → List ℕ
+frameOf none place = []
+frameOf (some es) place = frameAt es place
+
+unfoldable pub framePart : List ℕ → ℕ → List ℕ
+framePart s place = frameOf (readRecord s) place
+
+-- ---- adding an entry
+
+-- "the used length (above the buffer's length or above 65,536: 1) and an entry (field out of range, or a frame not of its length: 1)"
+unfoldable pub mayAddTo : ℕ → ℕ → ℕ → ℕ → ℕ → ℕ → Bool
+mayAddTo room used frame request count size = (leb used room && leb used most) && (inRange request count size && eqb size frame)
+
+unfoldable pub mayAdd : List ℕ → ℕ → RecordEntry → ℕ → Bool
+mayAdd buffer used e size = mayAddTo (length buffer) used (length (e .frame)) (e .request) (e .count) size
+
+-- "refused with 6 exactly when used + frame + 4 exceeds the buffer or 65,536"
+unfoldable pub hasRoom : List ℕ → ℕ → RecordEntry → Bool
+hasRoom buffer used e =
+    leb (used + length (e .frame) + 4) (length buffer) && leb (used + length (e .frame) + 4) most
+
+-- "then the used bytes must be a record (else 7)"; accepted, "the new used length is returned"
+abbrev pub addOf : Option (List RecordEntry) → List ℕ → ℕ → RecordEntry → Answer
+addOf none buffer used e = refused 7
+addOf (some es) buffer used e = cond (hasRoom buffer used e) (accepted (used + length (e .frame) + 4)) (refused 6)
+
+unfoldable pub addAnswer : List ℕ → ℕ → RecordEntry → ℕ → Answer
+addAnswer buffer used e size = cond (mayAdd buffer used e size) (addOf (readRecord (take used buffer)) buffer used e) (refused 1)
+
+-- accepted, the record of the old entries and one more, and the "bytes past the new end stay"
+abbrev pub storedOf : Option (List RecordEntry) → List ℕ → ℕ → RecordEntry → List ℕ
+storedOf none buffer used e = buffer
+storedOf (some es) buffer used e =
+    cond (hasRoom buffer used e) (recordBytes (es ++ (e ∷ [])) ++ drop (used + length (e .frame) + 4) buffer) buffer
+
+unfoldable pub addBuffer : List ℕ → ℕ → RecordEntry → ℕ → List ℕ
+addBuffer buffer used e size = cond (mayAdd buffer used e size) (storedOf (readRecord (take used buffer)) buffer used e) buffer

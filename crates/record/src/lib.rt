@@ -1,0 +1,161 @@
+// The session record of document 01: entries of a frame, a request and a count, one after the other, then their number.
+// It stands over nothing. Each public function is total and equals its definition in specs/Answers.antt or specs/Listing.antt, the
+// lent buffer too; specs/Layout.antt says which bytes a list of entries is. Nothing is written before the last test.
+mod listing;
+mod put;
+mod walk;
+
+ghost use mathlib.Core.Path.{_≡_};
+ghost use Rattle.record.specs.Layout.{RecordEntry};
+ghost use Rattle.record.specs.Answers.{madeNumber, newNumber, newBuffer, countedAnswer, entriesAnswer, foundAnswer, entryAnswer, framePart, mayAddTo, addedAnswer, addAnswer, addBuffer};
+ghost use Rattle.record.specs.Meaning.{CountMeans, StoredBy};
+pub use listing::Listed;
+pub use listing::list;
+use put::copy_in;
+use put::end_number;
+use put::tail;
+use walk::Walked;
+use walk::in_range;
+use walk::walk;
+use walk::wide2;
+use walk::wide4;
+
+// Where an entry's frame stands in the record, and the entry's fields.
+pub struct Located {
+    pub start: u32,
+    pub length: u16,
+    pub request: u8,
+    pub count: u8,
+}
+
+// What making a record answers.
+pub enum Made {
+    Empty,
+    NoRoom,
+}
+
+// What asking for the number of entries answers.
+pub enum Counted {
+    Entries(u32),
+    NotRecord,
+}
+
+// What asking for an entry answers.
+pub enum Found {
+    At(Located),
+    NotRecord,
+    NoPlace,
+}
+
+// What adding an entry answers: the new used length, or a refusal.
+pub enum Added {
+    Used(u32),
+    BadSetting,
+    NotRecord,
+    NoRoom,
+}
+
+// Writes a record of no entries at the start of the buffer.
+pub fn new(buffer: &mut [u8]) -> Made
+    ensures { λ r. ⌜ madeNumber r ≡ newNumber (now (buffer .entry)) ⌝ }
+    ensures { λ r. ⌜ now (buffer .exit) ≡ newBuffer (now (buffer .entry)) ⌝ }
+{
+    if buffer.len() < 4 {
+        return Made::NoRoom;
+    }
+    let none = end_number(0);
+    copy_in(buffer, 0, &none);
+    Made::Empty
+}
+
+// The number of entries of a record.
+pub fn entries(bytes: &[u8]) -> Counted
+    ensures { λ r. ⌜ countedAnswer r ≡ entriesAnswer (now (bytes .entry)) ⌝ }
+    ensures { λ r. ⌜ CountMeans r (now (bytes .entry)) ⌝ }
+{
+    let walked = walk(bytes, 0);
+    match walked {
+        Walked::Whole(n, _) => Counted::Entries(n),
+        Walked::Broken => Counted::NotRecord,
+    }
+}
+
+// The entry at a place, the oldest being at 0.
+pub fn entry(bytes: &[u8], place: usize) -> Found
+    ensures { λ r. ⌜ foundAnswer r ≡ entryAnswer (now (bytes .entry)) place ⌝ }
+{
+    let walked = walk(bytes, place);
+    let Walked::Whole(n, e) = walked else {
+        return Found::NotRecord;
+    };
+    if place < wide4(n) {
+        Found::At(e)
+    } else {
+        Found::NoPlace
+    }
+}
+
+// The frame of the entry at a place, as a part of the record; an empty part where `entry` refuses.
+pub fn frame(bytes: &[u8], place: usize) -> &[u8]
+    ensures { λ r. ⌜ now r ≡ framePart (now (bytes .entry)) place ⌝ }
+{
+    let found = entry(bytes, place);
+    match found {
+        Found::At(e) => {
+            let start = wide4(e.start);
+            let end = start + wide2(e.length);
+            &bytes[start..end]
+        }
+        Found::NotRecord => &bytes[..0],
+        Found::NoPlace => &bytes[..0],
+    }
+}
+
+// Document 01's 1 for adding: the used length, the entry's fields and the frame's length.
+fn may_add(room: usize, used: usize, frame: usize, request: u32, count: u32, length: u32) -> bool
+    ensures { λ r. ⌜ r ≡ mayAddTo room used frame request count length ⌝ }
+{
+    if used <= room {
+        if used <= 65536 {
+            if wide4(length) == frame {
+                return in_range(wide4(request), wide4(count), wide4(length));
+            }
+        }
+    }
+    false
+}
+
+// Adds an entry to the record in the first `used` bytes of the buffer.
+pub fn add(
+    buffer: &mut [u8],
+    used: usize,
+    frame: &[u8],
+    request: u32,
+    count: u32,
+    length: u32,
+) -> Added
+    ensures { λ r. ⌜ addedAnswer r ≡ addAnswer (now (buffer .entry)) used (record { frame = now (frame .entry); request = request; count = count }) length ⌝ }
+    ensures { λ r. ⌜ now (buffer .exit) ≡ addBuffer (now (buffer .entry)) used (record { frame = now (frame .entry); request = request; count = count }) length ⌝ }
+    ensures { λ r. ⌜ StoredBy r (now (buffer .entry)) (now (buffer .exit)) used (record { frame = now (frame .entry); request = request; count = count }) ⌝ }
+{
+    if may_add(buffer.len(), used, frame.len(), request, count, length) {
+        let walked = walk(&buffer[..used], 0);
+        let Walked::Whole(n, _) = walked else {
+            return Added::NotRecord;
+        };
+        let end = used + frame.len() + 4;
+        if buffer.len() < end {
+            return Added::NoRoom;
+        }
+        if 65536 < end {
+            return Added::NoRoom;
+        }
+        let at = used - 4;
+        let rest = tail(request, count, length, n + 1);
+        copy_in(buffer, at, frame);
+        copy_in(buffer, at + frame.len(), &rest);
+        Added::Used(end as u32)
+    } else {
+        Added::BadSetting
+    }
+}
