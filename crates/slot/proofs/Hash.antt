@@ -16,7 +16,7 @@ use Rattle.slot.specs.Hash.{Bits, poly, multiple, Divides, Degree, IsHas
 
 -- ---- sums of shifted numbers
 
-sum-shifted : (a k b : ℕ) → b < 2 ^ k → sum (a * 2 ^ k) b ≡ a * 2 ^ k + b
+pub sum-shifted : (a k b : ℕ) → b < 2 ^ k → sum (a * 2 ^ k) b ≡ a * 2 ^ k + b
 unfolding sum
 sum-shifted a k b h = xor-shifted a k b h
 
@@ -24,11 +24,11 @@ pub sum-below : (k a b : ℕ) → a < 2 ^ k → b < 2 ^ k → sum a b < 2 ^ k
 unfolding sum
 sum-below k a b p q = xor-lt k a b p q
 
-sum-shr : (a b k : ℕ) → sum a b / 2 ^ k ≡ sum (a / 2 ^ k) (b / 2 ^ k)
+pub sum-shr : (a b k : ℕ) → sum a b / 2 ^ k ≡ sum (a / 2 ^ k) (b / 2 ^ k)
 unfolding sum
 sum-shr a b k = xor-shr a b k
 
-sum-scale : (a b k : ℕ) → sum (a * 2 ^ k) (b * 2 ^ k) ≡ sum a b * 2 ^ k
+pub sum-scale : (a b k : ℕ) → sum (a * 2 ^ k) (b * 2 ^ k) ≡ sum a b * 2 ^ k
 unfolding sum
 sum-scale a b k =
     let z : 0 < 2 ^ k = pow-pos k in
@@ -37,7 +37,7 @@ sum-scale a b k =
     let l : bitXor (a * 2 ^ k) (b * 2 ^ k) ≡ bitXor (a * 2 ^ k + 0) (b * 2 ^ k + 0) = ap₂ bitXor (sym (add-zero (a * 2 ^ k))) (sym (add-zero (b * 2 ^ k))) in
     l ∙ e ∙ ap (λ (y : ℕ). bitXor a b * 2 ^ k + y) x ∙ add-zero (bitXor a b * 2 ^ k)
 
-sum-double : (a b : ℕ) → sum (2 * a) (2 * b) ≡ 2 * sum a b
+pub sum-double : (a b : ℕ) → sum (2 * a) (2 * b) ≡ 2 * sum a b
 sum-double a b = ap₂ sum (mul-comm 2 a) (mul-comm 2 b) ∙ sum-scale a b 1 ∙ mul-comm (sum a b) 2
 
 low-of : (v n : ℕ) → v / 2 ^ n ≡ 0 → v < 2 ^ n
@@ -81,7 +81,7 @@ unfolding hash
 hash-lt p n [] d h = pow-pos n
 hash-lt p n (b ∷ bs) d h = pushed-lt p n b (hash p n bs) d (h .0) (hash-lt p n bs d (h .1))
 
-ruleset xors = (sum-assoc, sum-comm, sum-left, cancel, sum-self, sum-zero, zero-sum)
+pub ruleset xors = (sum-assoc, sum-comm, sum-left, cancel, sum-self, sum-zero, zero-sum)
 
 -- r (one power up), b and c p, regrouped
 regroup : (r b c t : ℕ) → sum c (sum t r) ≡ sum (sum t b) (sum (sum r b) c)
@@ -137,14 +137,14 @@ bits-sums [] ds h k = k
 bits-sums (c ∷ cs) [] h k = h
 bits-sums (c ∷ cs) (d ∷ ds) h k = (sum-below 1 c d (h .0) (k .0), bits-sums cs ds (h .1) (k .1))
 
-bit-times : (c d p : ℕ) → c < 2 → d < 2 → sum c d * p ≡ sum (c * p) (d * p)
+pub bit-times : (c d p : ℕ) → c < 2 → d < 2 → sum c d * p ≡ sum (c * p) (d * p)
 bit-times zero d p h k = ap (λ (x : ℕ). x * p) (zero-sum d) ∙ sym (ap (λ (x : ℕ). sum x (d * p)) (zero-mul p) ∙ zero-sum (d * p))
 bit-times (suc zero) zero p h k = ap (λ (x : ℕ). x * p) (sum-zero 1) ∙ sym (ap (λ (x : ℕ). sum (1 * p) x) (zero-mul p) ∙ sum-zero (1 * p))
 bit-times (suc zero) (suc zero) p h k = ap (λ (x : ℕ). x * p) (sum-self 1) ∙ zero-mul p ∙ sym (sum-self (1 * p))
 bit-times (suc zero) (suc (suc d)) p h k = absurd (omega arith)
 bit-times (suc (suc c)) d p h k = absurd (omega arith)
 
-exchange : (a b c d : ℕ) → sum (sum a b) (sum c d) ≡ sum (sum a c) (sum b d)
+pub exchange : (a b c d : ℕ) → sum (sum a b) (sum c d) ≡ sum (sum a c) (sum b d)
 exchange a b c d = simp xors
 
 common : (x r q : ℕ) → sum (sum x r) (sum x q) ≡ sum r q

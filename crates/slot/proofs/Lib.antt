@@ -9,6 +9,7 @@ pub mod Slot
 pub mod Rule
 pub mod Demand
 mod SizeSteps
+mod HashTable
 mod HashSteps
 mod OrderSteps
 mod PlaceSteps

@@ -2,19 +2,29 @@
 -- Assumes nothing.
 use mathlib.Core.Path.{_≡_}
 use mathlib.Core.List.{List}
-use Prim.Native.Nat.{ℕ, _-_, _*_, _≤_, _<_}
+use Prim.Native.Nat.{ℕ, zero, suc, _-_, _*_, _^_, _≤_, _<_}
 use lib.ListN.{length, getD, drop}
 use Rattle.laws.specs.Tab.{total, Below}
 use Rattle.gf16.specs.Field.{sum}
 use Rattle.code_word.specs.Word.{apart}
 use Rattle.code_word.specs.Correct.{Near}
 use Rattle.slot.specs.Sizes.{words, wordLength}
+use Rattle.slot.specs.Hash.{pushed}
 use Rattle.slot.specs.Words.{piece, dataWord, placeOf, wordOf, numberIn}
 use Rattle.slot.specs.Order.{Data}
 use Rattle.slot.specs.Slot.{codeWord, wordIn}
 use Rattle.slot.specs.Unprotect.{SomeBeyond}
 use Rattle.slot.specs.declared.Repair.{Repair}
 use Rattle.slot.specs.declared.Repair.the-variants.{Repaired, Beyond}
+
+-- the remainder r, k powers higher, reduced by p
+unfoldable pub lifted : ℕ → ℕ → ℕ → ℕ → ℕ
+lifted p n zero r = r
+lifted p n (suc k) r = pushed p n 0 (lifted p n k r)
+
+-- entry t is what the bits of t as the four highest of a remainder come to, four powers higher
+pub record Stepped (p n : ℕ) (table : List ℕ) : Type 0 where
+  pub entry : (t : ℕ) → t < 16 → getD table t 0 ≡ lifted p n 4 (t * 2 ^ (n - 4))
 
 -- the word w, with the signature g, stands at the places of word i, and nothing else was changed
 pub record Scattered (size : ℕ) (g : ℕ → ℕ → ℕ) (i : ℕ) (w old new : List ℕ) : Type 0 where

@@ -11,10 +11,10 @@ use Rattle.slot.proofs.hashing.hash_of.Statement.{statement}
 use Rattle.slot.proofs.hashing.hash_of.Tie as tie
 
 abbrev Inv-loop : tie.InvT-loop
-Inv-loop p n s r₀ i₀ r i = (i ≤ length s) × (r ≡ hash p n (bitsOf (drop i s))) × (r < 2 ^ n)
+Inv-loop rows p n s r₀ i₀ r i = (i ≤ length s) × (r ≡ hash p n (bitsOf (drop i s))) × (r < 2 ^ n)
 
 abbrev μ-loop : tie.MeasureT-loop
-μ-loop p n s r₀ i₀ r i = i
+μ-loop rows p n s r₀ i₀ r i = i
 
 loop-holds : tie.Need-loop-holds Inv-loop μ-loop
 loop-holds c = let a = c .before .args in (omega arith, hash-first (a .p) (a .n) (a .s .now), pow-pos (a .n))

@@ -1,23 +1,55 @@
 -- `slot::hashing::push_semi` meets its contract. Assumes nothing.
+use Rattle.slot.proofs.HashTable.{not-none, low-fits, place-lt, semi-step}
+use native.Mathlib.Omega.{arith}
+use mathlib.Core.Path.{refl}
 use borrow.Author.Needs.{needs}
 use Rattle.slot.proofs.hashing.push_semi.Statement.{statement}
 use Rattle.slot.proofs.hashing.push_semi.Tie as tie
 
-push-requires : tie.Need-push-requires
-push-requires c κs = search needs
+sub-t : tie.Need-sub-t
+sub-t c = search needs
 
-push-requires-2 : tie.Need-push-requires-2
-push-requires-2 c κs = search needs
+shr-t : tie.Need-shr-t
+shr-t c = search needs
 
-push-requires-3 : tie.Need-push-requires-3
-push-requires-3 c κs = search needs
+sub-result : tie.Need-sub-result
+sub-result c = search needs
 
-push-requires-4 : tie.Need-push-requires-4
-push-requires-4 c κs = search needs
+shl-result : tie.Need-shl-result
+shl-result c = search needs
+
+rem-result : tie.Need-rem-result
+rem-result c = let f = not-none (c .args .n) (c .pre .3) in omega arith
+
+mul-result : tie.Need-mul-result
+mul-result c = let f = low-fits (c .args .n) (c .args .r) (c .pre .3) in omega arith
+
+cast-result : tie.Need-cast-result
+cast-result c = let f = place-lt (c .args .n) (c .args .c) (c .args .r) (c .pre .2) (c .pre .4) in omega arith
+
+mul-result-2 : tie.Need-mul-result-2
+mul-result-2 c = let f = place-lt (c .args .n) (c .args .c) (c .args .r) (c .pre .2) (c .pre .4) in omega arith
+
+element-copy-out-result : tie.Need-element-copy-out-result
+element-copy-out-result c = place-lt (c .args .n) (c .args .c) (c .args .r) (c .pre .2) (c .pre .4)
 
 returns : tie.Need-returns
-returns c = (cc, c .push4 .ensures .1)
+returns c =
+    let h = c .before in
+    let a = h .args in
+    semi-step (a .p) (a .n) (a .c) (a .r) _ (a .rows .now) (h .pre .0) (h .pre .1) (h .pre .2) (h .pre .3) (h .pre .4) refl
 
 pub push-semi-spec : {M : Type 1} → statement M
 push-semi-spec =
-    tie.close (tie.spec push-requires push-requires-2 push-requires-3 push-requires-4 returns)
+    tie.close
+    (tie.spec
+    sub-t
+    shr-t
+    sub-result
+    shl-result
+    rem-result
+    mul-result
+    cast-result
+    mul-result-2
+    element-copy-out-result
+    returns)

@@ -1,5 +1,6 @@
 -- `slot::hashing::second_hash` meets its contract. Assumes nothing.
 use Rattle.slot.proofs.HashSteps.{second-is}
+use Rattle.slot.proofs.HashTable.{rows-sixteen}
 use native.Mathlib.Omega.{arith}
 use Prim.Native.Nat.{_*_, _-_}
 use borrow.Author.Needs.{needs}
@@ -28,12 +29,12 @@ part-hash-of-end : tie.Need-part-hash-of-end
 part-hash-of-end c = search needs
 
 hash-of-requires : tie.Need-hash-of-requires
-hash-of-requires c κs = search needs
+hash-of-requires c κs = (rows-sixteen, search needs, search needs, search needs)
 
 returns : tie.Need-returns
 returns c =
-    let a = c .before .before .before .before .before .args in
-    let e = 2 * c .before .before .before .frame-bytes .result - c .before .before .conceal-size .result in
+    let a = c .before .before .before .before .before .before .args in
+    let e = 2 * c .before .before .before .before .frame-bytes .result - c .before .before .before .conceal-size .result in
     second-is (a .size) (a .mode) e (a .a .now) (c .hash-of .result) (omega arith) (c .hash-of .ensures .0)
 
 pub second-hash-spec : {M : Type 1} → statement M
