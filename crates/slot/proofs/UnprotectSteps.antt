@@ -1,15 +1,13 @@
 -- What the code of unprotecting asks at its returns: the answer from the words corrected and the heading compared, and demand 3 of two calls.
 -- Assumes nothing.
 use mathlib.Core.Path.{_≡_, sym, ap, ap₂, _∙_}
-use mathlib.Core.Bool.{Bool, true, false, not}
+use mathlib.Core.Bool.{true, false}
 use mathlib.Core.List.{List}
 use Prim.Native.Nat.{ℕ, zero, suc, _+_, _*_, _-_, _/_, _≤_}
 use native.Mathlib.Omega.{arith}
 use lib.ListN.{length, getD, take, drop, length-drop}
 use lib.Seq.{length-take-le, take-all}
-use borrow.Author.Tests.{not-true, not-false}
 use Rattle.laws.specs.Tab.{Below}
-use Rattle.laws.specs.Decides.{Decides}
 use Rattle.laws.proofs.Tab.{below-take}
 use Rattle.slot.specs.Sizes.{words, hash1, hash2, frameSize}
 use Rattle.slot.specs.Order.{mixed, Data}
@@ -18,7 +16,7 @@ use Rattle.slot.specs.Protect.{Settings, Lengths, Protects}
 use Rattle.slot.specs.Unprotect.{Taken, Unprotects}
 use Rattle.slot.specs.Demand.{DemandThree}
 use Rattle.slot.specs.Back.{rolled, requestIn, restIn, Matches, requestOf, frameOf}
-use Rattle.slot.specs.Inner.{MendedTo}
+use Rattle.slot.specs.Inner.{MendedTo, IsDelivered}
 use Rattle.slot.proofs.Slot.{gathered-slot, requestFrom, frameFrom, HashesMatch}
 use Rattle.slot.proofs.Order.{data-mixed}
 use Rattle.slot.proofs.Rule.{accepts, refuses}
@@ -34,9 +32,18 @@ data-blank size mode e h l = record {
   below = below-take 16 e blanks (omega arith) (λ i. let z = zeros-at 800 i in omega arith);
 }
 
--- the words mended, the swap undone, the heading compared
-module _ (size mode : ℕ) (slot old info order : List ℕ) (count : ℕ) (taken : Taken size mode slot old)
-    (mended : MendedTo size mode slot info (words size) count) (unmixed : order ≡ mixed size mode info) {r : Bool} (told : Decides (Matches size mode order) r) where
+-- the frame as the code rolls it
+pub rolled-is : (size mode h : ℕ) (order old new : List ℕ) → length old ≡ frameSize size mode → h ≡ 2 * hash1 size + 2 * hash2 size mode
+    → new ≡ rolled (length old) (take (length order - h) (drop h order)) → new ≡ rolled (frameSize size mode) (restIn size mode order)
+unfolding restIn
+rolled-is size mode h order old new l k g =
+    let d = length-drop h order in
+    let t : take (length order - h) (drop h order) ≡ drop h order = take-all (length order - h) (drop h order) (omega arith) in
+    g ∙ ap₂ rolled l (t ∙ ap (λ (n : ℕ). drop n order) k)
+
+-- the words mended, the swap undone, the heading compared, the frame written or not
+module _ (size mode : ℕ) (slot old new info order : List ℕ) (count : ℕ) (taken : Taken size mode slot old)
+    (mended : MendedTo size mode slot info (words size) count) (unmixed : order ≡ mixed size mode info) where
   hashes : HashesMatch size mode (slotWith size mode info) ≡ Matches size mode order
   unfolding HashesMatch
   hashes =
@@ -49,26 +56,22 @@ module _ (size mode : ℕ) (slot old info order : List ℕ) (count : ℕ) (taken
       f ∙ ap (requestIn size) unmixed
       ∙ ap (λ (s : List ℕ). requestIn size (mixed size mode s)) (sym (gathered-slot size mode info (taken .range) (mended .given)))
 
-  frame-as : (h : ℕ) (new : List ℕ) → h ≡ 2 * hash1 size + 2 * hash2 size mode → length order ≡ h + 2 * frameSize size mode
-      → new ≡ rolled (length old) (take (length order - h) (drop h order)) → new ≡ frameFrom size mode (slotWith size mode info)
-  unfolding frameFrom frameOf restIn
-  frame-as h new k l g =
-      let d = length-drop h order in
-      let t : take (length order - h) (drop h order) ≡ drop h order = take-all (length order - h) (drop h order) (omega arith) in
-      g ∙ ap₂ rolled (taken .lengths .frame-long) (t ∙ ap₂ drop k unmixed)
-      ∙ ap (λ (s : List ℕ). rolled (frameSize size mode) (drop (2 * hash1 size + 2 * hash2 size mode) (mixed size mode s)))
+  frame-as : new ≡ rolled (frameSize size mode) (restIn size mode order) → new ≡ frameFrom size mode (slotWith size mode info)
+  unfolding frameFrom frameOf
+  frame-as g =
+      g ∙ ap (λ (s : List ℕ). rolled (frameSize size mode) (restIn size mode s)) unmixed
+      ∙ ap (λ (s : List ℕ). rolled (frameSize size mode) (restIn size mode (mixed size mode s)))
       (sym (gathered-slot size mode info (taken .range) (mended .given)))
 
-  pub foreign-answer : not r ≡ true → Unprotects size mode slot old old 4 0 0
-  foreign-answer e =
-      refuses size mode slot old (slotWith size mode info) taken (corrected-slot size mode slot info count (taken .range) mended)
-      (rw hashes (told .fails (not-true r e)))
+  pub foreign-answer : IsDelivered size mode order old new false → Unprotects size mode slot old new 4 0 0
+  foreign-answer d =
+      rw (d .1)
+      (refuses size mode slot old (slotWith size mode info) taken (corrected-slot size mode slot info count (taken .range) mended) (rw hashes (d .0)))
 
-  pub accepted-answer : (h q : ℕ) (new : List ℕ) → not r ≡ false → h ≡ 2 * hash1 size + 2 * hash2 size mode → length order ≡ h + 2 * frameSize size mode
-      → q ≡ requestIn size order → new ≡ rolled (length old) (take (length order - h) (drop h order)) → Unprotects size mode slot old new 0 q count
-  accepted-answer h q new e k l f g =
-      rw (frame-as h new k l g, request-as q f, count-changes size mode slot info count (taken .range) mended)
-      (accepts size mode slot old (slotWith size mode info) taken (corrected-slot size mode slot info count (taken .range) mended) (rw hashes (told .holds (not-false r e))))
+  pub accepted-answer : (q : ℕ) → q ≡ requestIn size order → IsDelivered size mode order old new true → Unprotects size mode slot old new 0 q count
+  accepted-answer q f d =
+      rw (frame-as (d .1), request-as q f, count-changes size mode slot info count (taken .range) mended)
+      (accepts size mode slot old (slotWith size mode info) taken (corrected-slot size mode slot info count (taken .range) mended) (rw hashes (d .0)))
 
 -- demand 3 follows from the two contracts
 pub carried : (size mode q : ℕ) (frame lent sent slot old new : List ℕ) (p number r n : ℕ) → Protects size mode q frame lent sent p → Below 256 slot

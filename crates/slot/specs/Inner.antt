@@ -1,6 +1,7 @@
 -- What the private functions promise one another: no part of what is right of a slot.
 -- Assumes nothing.
 use mathlib.Core.Path.{_≡_}
+use mathlib.Core.Bool.{Bool, true, false}
 use mathlib.Core.List.{List}
 use Prim.Native.Nat.{ℕ, zero, suc, _-_, _*_, _^_, _≤_, _<_}
 use lib.ListN.{length, getD, drop}
@@ -8,11 +9,12 @@ use Rattle.laws.specs.Tab.{total, Below}
 use Rattle.gf16.specs.Field.{sum}
 use Rattle.code_word.specs.Word.{apart}
 use Rattle.code_word.specs.Correct.{Near}
-use Rattle.slot.specs.Sizes.{words, wordLength}
+use Rattle.slot.specs.Sizes.{words, wordLength, frameSize}
 use Rattle.slot.specs.Hash.{pushed}
 use Rattle.slot.specs.Words.{piece, dataWord, placeOf, wordOf, numberIn}
 use Rattle.slot.specs.Order.{Data}
 use Rattle.slot.specs.Slot.{codeWord, wordIn}
+use Rattle.slot.specs.Back.{rolled, restIn, Matches}
 use Rattle.slot.specs.Unprotect.{SomeBeyond}
 use Rattle.slot.specs.declared.Repair.{Repair}
 use Rattle.slot.specs.declared.Repair.the-variants.{Repaired, Beyond}
@@ -70,3 +72,8 @@ pub record MendedTo (size mode : ℕ) (slot info : List ℕ) (n count : ℕ) : T
 abbrev pub IsRepair : ℕ → ℕ → List ℕ → List ℕ → Repair → Type 0
 IsRepair size mode slot info (Repaired n) = MendedTo size mode slot info (words size) n
 IsRepair size mode slot info Beyond = SomeBeyond size mode slot
+
+-- the heading matches and the frame is written, or it does not and the frame buffer is as lent
+abbrev pub IsDelivered : ℕ → ℕ → List ℕ → List ℕ → List ℕ → Bool → Type 0
+IsDelivered size mode t old new true = Matches size mode t × (new ≡ rolled (frameSize size mode) (restIn size mode t))
+IsDelivered size mode t old new false = (Matches size mode t → ⊥) × (new ≡ old)

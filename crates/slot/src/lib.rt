@@ -9,6 +9,8 @@ ghost use Rattle.slot.specs.Order.{Data};
 ghost use Rattle.slot.specs.Protect as protecting;
 ghost use Rattle.slot.specs.Unprotect as unprotecting;
 ghost use Rattle.slot.specs.Demand.{Carried};
+ghost use Rattle.slot.specs.Back.{requestIn};
+ghost use Rattle.slot.specs.Inner.{IsDelivered};
 
 mod geometry;
 mod hashing;
@@ -124,7 +126,20 @@ fn unprotect_sized(size: usize, mode: usize, slot: &[u8], frame: &mut [u8]) -> R
     judge(size, mode, slot, &mut info[..e], frame)
 }
 
-// Every word corrected, then the heading compared, then the frame written; info is room for the data.
+// The frame, written where the heading matches and nowhere else.
+fn deliver(size: usize, mode: usize, request: u32, info: &[u8], frame: &mut [u8]) -> bool
+    requires { ⌜ (InRange size mode) × (request ≡ requestIn size (now info)) × (Data size mode (now info)) × (length (now frame) ≡ frameSize size mode) ⌝ }
+    ensures { λ r. ⌜ IsDelivered size mode (now (info .entry)) (now (frame .entry)) (now (frame .exit)) r ⌝ }
+{
+    let h = 2 * geometry::first_hash_size(size) + 2 * geometry::second_hash_size(size, mode);
+    if !receiving::matches(size, mode, request, info) {
+        return false;
+    }
+    receiving::roll(&info[h..], frame);
+    true
+}
+
+// Every word corrected, then the heading compared and the frame written; info is room for the data.
 fn judge(size: usize, mode: usize, slot: &[u8], info: &mut [u8], frame: &mut [u8]) -> Reception
     requires { ⌜ (InRange size mode) × (length (now slot) ≡ size) × (Data size mode (now info)) × (length (now frame) ≡ frameSize size mode) ⌝ }
     ensures { λ r. ⌜ unprotecting.Unprotects size mode (now (slot .entry)) (now (frame .entry)) (now (frame .exit)) (unprotecting.numberOf r) (unprotecting.requestOf r) (unprotecting.countOf r) ⌝ }
@@ -135,11 +150,9 @@ fn judge(size: usize, mode: usize, slot: &[u8], info: &mut [u8], frame: &mut [u8
     ordering::mix(size, mode, info);
     let at = 2 * geometry::first_hash_size(size) - 1;
     let request = info[at] / 4;
-    if !receiving::matches(size, mode, request as u32, info) {
+    if !deliver(size, mode, request as u32, info, frame) {
         return Reception::Foreign;
     }
-    let h = 2 * geometry::first_hash_size(size) + 2 * geometry::second_hash_size(size, mode);
-    receiving::roll(&info[h..], frame);
     Reception::Accepted(request, count)
 }
 
