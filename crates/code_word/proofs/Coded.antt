@@ -33,9 +33,9 @@ front (suc n) (r ∷ rs) info (suc k) e = front n rs info k (omega arith)
 twice : (a b : ℕ) → sum (sum a b) b ≡ a
 twice a b = simp ring2
 
-pub coded-is : (d : ℕ) (info : List ℕ) → 2 ≤ d → d ≤ 16 → SemiOctets info → CodeWord d info (coded d info)
+pub coded-is : (d : ℕ) (info : List ℕ) → SemiOctets info → CodeWord d info (coded d info)
 unfolding coded generator
-coded-is d info a b s =
+coded-is d info s =
     let n = d - 1 in
     let g = rooted n in
     let z = replicate n 0 ++ info in
@@ -66,10 +66,10 @@ apart-front (suc n) (x ∷ xs) [] e = omega arith
 apart-front (suc n) (x ∷ xs) (y ∷ ys) e = let r = apart-front n xs ys e in let u = unequal-le (eqb x y) in omega arith
 
 -- two code words over the same data
-pub code-word-only : (d : ℕ) (info v w : List ℕ) → 2 ≤ d → d ≤ 16 → d - 1 + length info ≤ 15 → CodeWord d info v → CodeWord d info w → v ≡ w
-code-word-only d info v w a b l p q =
+pub code-word-only : (d : ℕ) (info v w : List ℕ) → 2 ≤ d → d - 1 + length info ≤ 15 → CodeWord d info v → CodeWord d info w → v ≡ w
+code-word-only d info v w a l p q =
     let f = apart-front (d - 1) v w (p .holds ∙ sym (q .holds)) in
-    unique d v w b (p .long ∙ sym (q .long)) (omega (arith, p .long)) (p .semi-octets) (q .semi-octets) (p .valid) (q .valid) (omega arith)
+    unique d v w (p .long ∙ sym (q .long)) (omega (arith, p .long)) (p .semi-octets) (q .semi-octets) (p .valid) (q .valid) (omega arith)
 
-pub coded-only : (d : ℕ) (info w : List ℕ) → 2 ≤ d → d ≤ 16 → d - 1 + length info ≤ 15 → SemiOctets info → CodeWord d info w → w ≡ coded d info
-coded-only d info w a b l s p = code-word-only d info w (coded d info) a b l p (coded-is d info a b s)
+pub coded-only : (d : ℕ) (info w : List ℕ) → 2 ≤ d → d - 1 + length info ≤ 15 → SemiOctets info → CodeWord d info w → w ≡ coded d info
+coded-only d info w a l s p = code-word-only d info w (coded d info) a l p (coded-is d info s)

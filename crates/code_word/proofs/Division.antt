@@ -311,9 +311,9 @@ roots-valid d w a b s r =
 
 -- ---- the distance of valid words
 
-pub unique : (d : ℕ) (xs ys : List ℕ) → d ≤ 16 → length xs ≡ length ys → length xs ≤ 15 → SemiOctets xs → SemiOctets ys
+pub unique : (d : ℕ) (xs ys : List ℕ) → length xs ≡ length ys → length xs ≤ 15 → SemiOctets xs → SemiOctets ys
     → Valid d xs → Valid d ys → apart xs ys < d → xs ≡ ys
-unique d xs ys b e l s t v w h = unique-roots d xs ys e l s t (valid-roots d xs s v) (valid-roots d ys t w) h
+unique d xs ys e l s t v w h = unique-roots d xs ys e l s t (valid-roots d xs s v) (valid-roots d ys t w) h
 
 -- at most one valid word lies within m - 1 places of anything
 pub nearest : (mode : ℕ) (old u v : List ℕ) → length old ≤ 15 → Near mode old u → Near mode old v → u ≡ v

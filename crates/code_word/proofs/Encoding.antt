@@ -68,7 +68,7 @@ made mode n r rows old new a b e h l t s d p =
     record {
       makeable = record { fits = record { mode-from = a; mode-to = b; checks = omega arith; most = l }; semi-octets = semi };
       made = word;
-      only = λ w q. code-word-only (distance mode) info w new (omega arith) (omega arith) (omega (arith, length-drop k old)) q word;
+      only = λ w q. code-word-only (distance mode) info w new (omega arith) (omega (arith, length-drop k old)) q word;
     }
 
 pub not-made : (mode n : ℕ) (old : List ℕ) → n ≡ distance mode - 1 → (SemiOctets (drop n old) → ⊥) → NotMade mode old old

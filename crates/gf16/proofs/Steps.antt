@@ -1,16 +1,9 @@
--- What the steps of a product ask: a digit times a number below a bound stays below it, and the inverse's five products make the power 14.
+-- What the steps of the inverse ask: its five products make the power 14.
 -- Assumes nothing.
 use mathlib.Core.Path.{_≡_, refl, sym, ap, _∙_, subst}
-use Prim.Native.Nat.{ℕ, zero, suc, _*_, _<_}
-use native.Mathlib.Omega.{arith}
-use native.Mathlib.Nat.{zero-mul, one-mul}
+use Prim.Native.Nat.{ℕ}
 use Rattle.gf16.specs.Field.{product, power, inverse}
 use Rattle.gf16.proofs.Laws.{product-assoc, product-one, product-of-mod}
-
-pub digit-lt : (d a b : ℕ) → d < 2 → a < b → d * a < b
-digit-lt zero a b h k = rw zero-mul (omega arith)
-digit-lt (suc zero) a b h k = rw one-mul k
-digit-lt (suc (suc d)) a b h k = absurd (omega arith)
 
 fourteenth : (a : ℕ)
     → product (product a (product (product a (product a a)) (product a (product a a)))) (product a (product (product a (product a a)) (product a (product a a))))

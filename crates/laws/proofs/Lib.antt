@@ -3,3 +3,4 @@ pub mod Every
 pub mod Tab
 pub mod Spread
 pub mod Fill
+pub mod Digit

@@ -349,7 +349,7 @@ code-of size mode i slot info word r l n h =
     let w : dataWord size mode info i ≡ drop (2 * mode - 1 - 1) word = rw d h in
     let s = semi-octets-of (drop (2 * mode - 1 - 1) word) (below-drop 16 (2 * mode - 1 - 1) word (below-of word (n .semi-octets))) in
     ap (coded (distance mode)) w
-    ∙ sym (coded-only (distance mode) (drop (2 * mode - 1 - 1) word) word (omega (arith, r .mode-from)) (omega (arith, r .mode-to)) (omega (arith, long)) s
+    ∙ sym (coded-only (distance mode) (drop (2 * mode - 1 - 1) word) word (omega (arith, r .mode-from)) (omega (arith, long)) s
     (record { semi-octets = n .semi-octets; long = long ∙ omega (arith, long); holds = refl; valid = n .valid }))
 
 pub repaired : (size mode : ℕ) (slot all counts info : List ℕ) (r : Repair) → InRange size mode → Answered size mode slot all counts

@@ -90,7 +90,7 @@ module _ (size mode q : ℕ) (frame slot old : List ℕ) (taken : Taken size mod
       let made = slotOf size mode q frame in
       same-words size mode slot made r slot-bytes (bytes-slot-of size mode q frame r)
       (λ i l.
-      unique (distance mode) (wordIn size mode slot i) (wordIn size mode made i) (omega (arith, r .mode-to))
+      unique (distance mode) (wordIn size mode slot i) (wordIn size mode made i)
       (words-in size mode slot r .long i l ∙ sym (words-in size mode made r .long i l))
       (word-fits size mode slot r i l) (word-semi-octets size mode slot r i l) (word-semi-octets size mode made r i l)
       (v i l) (valid-slot size mode q frame r i l)

@@ -4,7 +4,7 @@ use mathlib.Core.Path.{_≡_, refl, sym, ap, _∙_}
 use mathlib.Core.List.{List, _∷_}
 use Prim.Native.Nat.{ℕ, zero, suc, _+_, _*_, _-_, _/_, _%_, _^_, _≤_, _<_}
 use native.Mathlib.Omega.{arith}
-use native.Mathlib.Nat.{two-pow-succ, div-lt-iff-lt-mul, zero-mul, one-mul}
+use native.Mathlib.Nat.{two-pow-succ, div-lt-iff-lt-mul}
 use lib.Bits.{bitXor}
 use lib.ListN.{length, getD, take, drop, length-drop}
 use lib.Pow.{pow-pos, pow-mono, shl-exact}
@@ -34,11 +34,6 @@ top-bit n b r h k l =
     let w : sum (2 * r) (b * 2 ^ n) < 2 ^ suc n = sum-below (suc n) (2 * r) (b * 2 ^ n) (omega (arith, two-pow-succ n)) (bit-lt b n k) in
     let t : sum (2 * r) (b * 2 ^ n) < 2 * 2 ^ n = omega (arith, two-pow-succ n) in
     rw (shifted-bit b n k h) (div-lt-iff-lt-mul (pow-pos n) .1 t)
-
-pub digit-times : (d p m : ℕ) → d < 2 → p < m → d * p < m
-digit-times zero p m h k = rw zero-mul (omega arith)
-digit-times (suc zero) p m h k = rw one-mul k
-digit-times (suc (suc d)) p m h k = absurd (omega arith)
 
 pushed-as : (p n b r : ℕ) → bitXor (bitXor (2 * r) (b * 2 ^ n)) (bitXor (2 * r) (b * 2 ^ n) / 2 ^ n * p) ≡ pushed p n b r
 unfolding pushed sum

@@ -231,7 +231,7 @@ module _ (size mode i at : ℕ) (info w : List ℕ) (range : InRange size mode) 
           semi-octets = rw b s;
         } in
         let c : CodeWord (distance mode) (dataWord size mode info i) made = rw b at (made-code mode _ made n k m) in
-        coded-only (distance mode) (dataWord size mode info i) made (omega (arith, range .mode-from)) (omega (arith, range .mode-to)) (omega arith) s c
+        coded-only (distance mode) (dataWord size mode info i) made (omega (arith, range .mode-from)) (omega arith) s c
 
 -- ---- the loop over the words
 

@@ -74,7 +74,7 @@ module _ (size mode : ℕ) (s : List ℕ) (range : InRange size mode) (given : D
   -- code word i is one over data word i
   pub code-word : (i : ℕ) → CodeWord (distance mode) (dataWord size mode s i) (codeWord size mode s i)
   unfolding codeWord
-  code-word i = coded-is (distance mode) (dataWord size mode s i) (omega (arith, range .mode-from)) (omega (arith, range .mode-to)) (semi-octets-word i)
+  code-word i = coded-is (distance mode) (dataWord size mode s i) (semi-octets-word i)
 
   pub all-words : AllWords size (codeWord size mode s)
   all-words = record {
@@ -143,7 +143,7 @@ word-back size mode slot r i l v =
     let c = checks-fit size mode i r l in
     let h = length-high size i (r .size-from) in
     let b = below-drop 16 (distance mode - 1) w (a .below i l) in
-    sym (coded-only (distance mode) (drop (distance mode - 1) w) w (omega (arith, r .mode-from)) (omega (arith, r .mode-to)) (omega arith)
+    sym (coded-only (distance mode) (drop (distance mode - 1) w) w (omega (arith, r .mode-from)) (omega arith)
     (semi-octets-of (drop (distance mode - 1) w) b)
     (record { semi-octets = semi-octets-of w (a .below i l); long = a .long i l ∙ omega arith; holds = refl; valid = v }))
 

@@ -1,7 +1,7 @@
 -- `gf16::term` meets its contract. Assumes nothing.
 use mathlib.Core.Path.{refl}
 use native.Mathlib.Omega.{arith}
-use Rattle.gf16.proofs.Steps.{digit-lt}
+use Rattle.laws.proofs.Digit.{digit-lt}
 use Rattle.gf16.proofs.term.Statement.{statement}
 use Rattle.gf16.proofs.term.Tie as tie
 

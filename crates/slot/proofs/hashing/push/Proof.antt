@@ -1,5 +1,6 @@
 -- `slot::hashing::push` meets its contract. Assumes nothing.
-use Rattle.slot.proofs.HashSteps.{degree-fits, remainder-fits, top-bit, digit-times, push-is}
+use Rattle.slot.proofs.HashSteps.{degree-fits, remainder-fits, top-bit, push-is}
+use Rattle.laws.proofs.Digit.{digit-lt}
 use native.Mathlib.Omega.{arith}
 use mathlib.Core.Path.{refl}
 use borrow.Author.Needs.{needs}
@@ -18,7 +19,7 @@ shr-result c = search needs
 mul-result : tie.Need-mul-result
 mul-result c =
     let a = c .args in
-    let f = digit-times _ (a .p) 8388608 (top-bit (a .n) (a .b) (a .r) (c .pre .1) (c .pre .2) (c .pre .3)) (degree-fits (a .p) (a .n) (c .pre .0) (c .pre .1)) in
+    let f = digit-lt _ (a .p) 8388608 (top-bit (a .n) (a .b) (a .r) (c .pre .1) (c .pre .2) (c .pre .3)) (degree-fits (a .p) (a .n) (c .pre .0) (c .pre .1)) in
     omega arith
 
 returns : tie.Need-returns
