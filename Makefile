@@ -9,6 +9,7 @@ RATTLE := crates.txt $(shell find crates -name '*.rt' -o -name '*.antt')
 WORDS := tests/code_word
 BUILT := target/tests/code_word
 HAND := $(addprefix $(WORDS)/,tables.c make.c general.c closed.c)
+CASES := tests/common/cases.c
 SLOT := tests/slot
 SLOT_BUILT := target/tests/slot
 
@@ -39,14 +40,14 @@ clean:
 target/staticlib/lib%.a: $(RATTLE)
 	rt staticlib $*
 
-$(BUILT)/check: $(WORDS)/check.c $(WORDS)/search.c
+$(BUILT)/check: $(WORDS)/check.c $(WORDS)/search.c $(CASES) $(CASES:.c=.h)
 $(BUILT)/day: $(WORDS)/day.c
 $(BUILT)/bench: $(WORDS)/bench.c $(HAND)
 $(BUILT)/check $(BUILT)/day $(BUILT)/bench: target/staticlib/libword_calls.a $(wildcard $(WORDS)/*.h)
 	@mkdir -p $(BUILT)
 	$(CC) $(CFLAGS) -o $@ $(filter %.c,$^) $(filter %.a,$^)
 
-$(SLOT_BUILT)/check: $(SLOT)/check.c
+$(SLOT_BUILT)/check: $(SLOT)/check.c $(CASES) $(CASES:.c=.h)
 $(SLOT_BUILT)/bench: $(SLOT)/bench.c
 $(SLOT_BUILT)/check $(SLOT_BUILT)/bench: $(SLOT)/reference.c $(WORDS)/search.c target/staticlib/libslot_calls.a \
 		$(wildcard $(SLOT)/*.h) $(WORDS)/search.h

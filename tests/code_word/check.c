@@ -10,43 +10,14 @@
 #include <stdlib.h>
 #include <string.h>
 
+#include "../common/cases.h"
 #include "search.h"
 #include "word_calls.h"
 
-enum { GUARD = 32, ROOM = 1 << 17, SHOWN = 5 };
+enum { ROOM = LENT };
 
 static const uint32_t modes[] = {2, 3, 4};
 static const uint32_t no_modes[] = {0, 1, 5, 6, 16, 255, 256, 258, 259, 260, 65538, 0x80000002u, 4294967295u};
-#define COUNT(a) (sizeof(a) / sizeof(a)[0])
-
-/* ---- numbers that look random, the same for one seed */
-static uint64_t state;
-
-static uint32_t next(void)
-{
-    uint64_t z = state += 0x9e3779b97f4a7c15u;
-    z = (z ^ z >> 30) * 0xbf58476d1ce4e5b9u;
-    z = (z ^ z >> 27) * 0x94d049bb133111ebu;
-    return (uint32_t)(z >> 32);
-}
-
-static uint32_t below(uint32_t n)
-{
-    return next() % n;
-}
-
-/* ---- groups of cases */
-static unsigned long cases, wrong, all_cases;
-
-static void group_ends(const char *name)
-{
-    printf("%-68s %9lu cases, %lu wrong\n", name, cases, wrong);
-    fflush(stdout);
-    if (cases == 0 || wrong > 0)
-        exit(1);
-    all_cases += cases;
-    cases = 0;
-}
 
 static void show(const char *what, const uint8_t *bytes, size_t length)
 {
@@ -60,8 +31,7 @@ static void show(const char *what, const uint8_t *bytes, size_t length)
 static void judge(int right, const char *call, uint32_t mode, const uint8_t *lent, const uint8_t *left,
                   const uint8_t *wanted, size_t length)
 {
-    cases++;
-    if (right || wrong++ >= SHOWN)
+    if (!case_shown(right))
         return;
     printf("  WRONG: %s, mode %" PRIu32 ", length %zu\n", call, mode, length);
     show("lent  ", lent, length);
@@ -138,22 +108,8 @@ static int valid(const uint8_t *word, size_t length, uint32_t mode)
     return search_syndrome(word, length, mode) == 0 && memcmp(rest, zeros, 2 * mode - 2) == 0;
 }
 
-/* ---- a buffer to lend, with known bytes on both sides */
-typedef struct { uint8_t bytes[GUARD + ROOM + GUARD]; } buffer;
+/* ---- one call with guarded buffers, beside what is right */
 static buffer lent_words, wanted_words, lent_counts, wanted_counts;
-
-static uint8_t *guarded(buffer *b, const uint8_t *from, size_t length)
-{
-    memset(b->bytes, 0xa5, GUARD);
-    memcpy(b->bytes + GUARD, from, length);
-    memset(b->bytes + GUARD + length, 0x5a, GUARD);
-    return b->bytes + GUARD;
-}
-
-static int same(const buffer *a, const buffer *b, size_t length)
-{
-    return memcmp(a->bytes, b->bytes, GUARD + length + GUARD) == 0;
-}
 
 static void try_make(const uint8_t *from, size_t length, uint32_t mode)
 {
@@ -422,9 +378,8 @@ static void whole_slots(void)
 
 int main(int argc, char **argv)
 {
-    state = argc > 1 ? strtoull(argv[1], NULL, 0) : 634;
+    cases_start(argc > 1 ? argv[1] : NULL);
     uint32_t in_mode_4 = argc > 2 ? (uint32_t)strtoul(argv[2], NULL, 0) : 100000;
-    printf("seed %" PRIu64 "\n", state);
     if (!search_prepare()) {
         printf("WRONG: two patterns of at most m - 1 changes have one syndrome, or memory ended\n");
         return 2;
@@ -439,6 +394,6 @@ int main(int argc, char **argv)
     syndromes(4, in_mode_4);
     for (size_t m = 0; m < COUNT(modes); m++)
         every_pattern(modes[m]);
-    printf("%lu cases, 0 wrong\n", all_cases);
+    cases_end();
     return 0;
 }

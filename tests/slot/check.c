@@ -11,27 +11,11 @@
 #include <string.h>
 
 #include "../code_word/search.h"
+#include "../common/cases.h"
 #include "reference.h"
 #include "slot_calls.h"
 
-enum { GUARD = 32, ROOM = 1024, SHOWN = 5, TURNS = 40 };
-#define COUNT(a) (sizeof(a) / sizeof(a)[0])
-
-/* ---- numbers that look random, the same for one seed */
-static uint64_t state;
-
-static uint32_t next(void)
-{
-    uint64_t z = state += 0x9e3779b97f4a7c15u;
-    z = (z ^ z >> 30) * 0xbf58476d1ce4e5b9u;
-    z = (z ^ z >> 27) * 0x94d049bb133111ebu;
-    return (uint32_t)(z >> 32);
-}
-
-static uint32_t below(uint32_t n)
-{
-    return next() % n;
-}
+enum { ROOM = 1024, TURNS = 40 };
 
 static void random_bytes(uint8_t *bytes, size_t length)
 {
@@ -39,46 +23,21 @@ static void random_bytes(uint8_t *bytes, size_t length)
         bytes[k] = (uint8_t)next();
 }
 
-/* ---- groups of cases */
-static unsigned long cases, wrong, all_cases;
-
-static void group_ends(const char *name)
-{
-    printf("%-76s %7lu cases, %lu wrong\n", name, cases, wrong);
-    fflush(stdout);
-    if (cases == 0 || wrong > 0)
-        exit(1);
-    all_cases += cases;
-    cases = 0;
-}
-
 /* Counts a case, and shows the first wrong ones of a group. */
 static void judge(int right, const char *call, size_t size, uint32_t mode, slot_answer want, slot_answer got)
 {
-    cases++;
-    if (right || wrong++ >= SHOWN)
+    if (!case_shown(right))
         return;
     printf("  WRONG: %s, size %zu, mode %" PRIu32 ": number %u, request %u, count %u; wanted %u, %u, %u\n", call, size, mode,
            got.number, got.request, got.semi_octets, want.number, want.request, want.semi_octets);
 }
 
-/* ---- a buffer to lend, with known bytes on both sides */
-typedef struct { uint8_t bytes[GUARD + ROOM + GUARD]; } buffer;
-
-static uint8_t *guarded(buffer *b, const uint8_t *from, size_t length)
-{
-    memset(b->bytes, 0xa5, GUARD);
-    if (length > 0)
-        memcpy(b->bytes + GUARD, from, length);
-    memset(b->bytes + GUARD + length, 0x5a, GUARD);
-    return b->bytes + GUARD;
-}
-
+/* ---- one call with guarded buffers */
 static int holds(const buffer *b, const uint8_t *bytes, size_t length)
 {
     buffer whole;
     guarded(&whole, bytes, length);
-    return memcmp(b->bytes, whole.bytes, GUARD + length + GUARD) == 0;
+    return same(b, &whole, length);
 }
 
 /* What is lent and of which length; `nowhere` lends NULL, for a length of 0. */
@@ -499,9 +458,8 @@ static void everywhere(one_case *one, const char *name)
 
 int main(int argc, char **argv)
 {
-    state = argc > 1 ? strtoull(argv[1], NULL, 0) : 634;
+    cases_start(argc > 1 ? argv[1] : NULL);
     folder = argc > 2 ? argv[2] : folder;
-    printf("seed %" PRIu64 "\n", state);
     if (!search_prepare()) {
         printf("WRONG: two patterns of at most m - 1 changes have one syndrome, or memory ended\n");
         return 2;
@@ -521,6 +479,6 @@ int main(int argc, char **argv)
     everywhere(one_beyond, "every size and mode: one word with m to m + 3 changes");
     everywhere(any_bytes, "every size and mode: random bytes");
     everywhere(other_mode, "every size and mode: slots of another mode");
-    printf("%lu cases, 0 wrong\n", all_cases);
+    cases_end();
     return 0;
 }
