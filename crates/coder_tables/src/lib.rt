@@ -1,0 +1,36 @@
+// The arithmetic coder's tables of clauses 5.9.4 and 5.9.6, for the readers of a frame (crate `laws` gives the proofs their computed test).
+// It stands over nothing. Each function asks nothing and promises the whole table of specs/Tables.antt, its rows one after the other;
+// proofs/Rules.antt proves of these once that every row rises from 0 to exactly 1,024 and that every lookup names one of the 64 rows.
+// The code's numbers and the definitions' are made from tables.txt by make_tables.
+ghost use mathlib.Core.Path.{_≡_};
+ghost use Rattle.coder_tables.specs.Tables.{lookTable, spectrumTable, orderTable, coefficientTable};
+
+mod constants;
+
+// The row of `spectrum` for each context.
+pub fn lookup() -> [u8; 4096]
+    ensures { λ r. ⌜ r ≡ lookTable ⌝ }
+{
+    constants::LOOKUP
+}
+
+// 64 rows of the symbols 0 to 16.
+pub fn spectrum() -> [u16; 1152]
+    ensures { λ r. ⌜ r ≡ spectrumTable ⌝ }
+{
+    constants::SPECTRUM
+}
+
+// A row of the orders 1 to 8 for each weighting.
+pub fn tns_order() -> [u16; 18]
+    ensures { λ r. ⌜ r ≡ orderTable ⌝ }
+{
+    constants::ORDER
+}
+
+// A row of the indices 0 to 16 for each coefficient's place.
+pub fn tns_coefficients() -> [u16; 144]
+    ensures { λ r. ⌜ r ≡ coefficientTable ⌝ }
+{
+    constants::COEFFICIENTS
+}
