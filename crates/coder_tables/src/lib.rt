@@ -1,7 +1,7 @@
-// The arithmetic coder's tables of clauses 5.9.4 and 5.9.6, for the readers of a frame (crate `laws` gives the proofs their computed test).
-// It stands over nothing. Each function asks nothing and promises the whole table of specs/Tables.antt, its rows one after the other;
-// proofs/Rules.antt proves of these once that every row rises from 0 to exactly 1,024 and that every lookup names one of the 64 rows.
-// The code's numbers and the definitions' are made from tables.txt by make_tables.
+// The arithmetic coder's tables of clauses 5.9.4 and 5.9.6, for whoever reads a frame. The code stands over nothing, its proofs over crate `laws`.
+// Each function asks nothing and promises the whole table of specs/Tables.antt, its rows one after the other; proofs/Rules.antt proves of these
+// once that every row rises from 0 to exactly 1,024 and that every lookup names one of the 64 rows.
+// make_tables makes the code's numbers and the definitions' from tables.txt.
 ghost use mathlib.Core.Path.{_≡_};
 ghost use Rattle.coder_tables.specs.Tables.{lookTable, spectrumTable, orderTable, coefficientTable};
 
