@@ -1,0 +1,297 @@
+-- The whole frame (5.4.2): what each return of the reader's own functions says, from what was found up to it.
+-- Assumes nothing.
+use mathlib.Core.Path.{_≡_, refl, sym, ap, _∙_}
+use mathlib.Core.List.{List}
+use Prim.Native.Nat.{ℕ, zero, suc, _+_, _*_, _/_, _≤_, _<_}
+use native.Mathlib.Omega.{arith}
+use lib.ListN.{length, take, getD, replicate}
+use lib.IntN.{ℤ, pos}
+use borrow.Author.Tests.{eq-eqb, ne-eqb, le-leb, lt-leb}
+use Rattle.coder_tables.specs.Tables.{lookTable, spectrumTable, orderTable, coefficientTable}
+use Rattle.coder_tables.specs.Rows.{SpectrumTables}
+use Rattle.coder_tables.proofs.Rules.{spectrum-tables, order-row, coefficient-row}
+use Rattle.frame.specs.Read.{Read, value, cause}
+use Rattle.frame.specs.Settings.{rateOf, rateOffset, weighting}
+use Rattle.frame.specs.Side.{sideOf, sideGiven, sideCause}
+use Rattle.frame.specs.Symbol.{startOf}
+use Rattle.frame.specs.Tns.{Filter, filterOf, filterGiven, filterCause, unused}
+use Rattle.frame.specs.Pairs.{Streams, Spectrum, pairsOf, pairsGiven, pairsCause}
+use Rattle.frame.specs.Residual.{Residual, leftOf, leftGiven, leftCause}
+use Rattle.frame.specs.Frame.{Spectral, Whole, pairSetting, finishedOf, sentBits, spectralOf, spectralFrom, spectralGiven, spectralCause}
+use Rattle.frame.specs.Frame.{arithmeticFrom, frameOf}
+use Rattle.frame.specs.Frame.{Judged, refused, judgedRead, judgedSized, judgedOf, givenOf, spectrumOf, residualAfter, told}
+use Rattle.frame.specs.Sound.{Roomy, Small, TnsTables, GoodSide, GoodFilter, GoodPairs, GoodLeft, GoodSpectral, Bounded}
+use Rattle.frame.specs.declared.settings.Setting.{Setting}
+use Rattle.frame.specs.declared.settings.Rate.the-variants as rate
+use Rattle.frame.specs.declared.side.Head.{Head}
+use Rattle.frame.specs.declared.side.Side.{Side}
+use Rattle.frame.specs.declared.coder.Coder.{Coder}
+use Rattle.frame.specs.declared.side.SideRead.{SideRead}
+use Rattle.frame.specs.declared.side.SideRead.the-variants as side
+use Rattle.frame.specs.declared.tns.FilterRead.{FilterRead}
+use Rattle.frame.specs.declared.tns.FilterRead.the-variants as filter
+use Rattle.frame.specs.declared.pairs.PairsRead.{PairsRead}
+use Rattle.frame.specs.declared.pairs.PairsRead.the-variants as pairsRead
+use Rattle.frame.specs.declared.residual.Left.{Left}
+use Rattle.frame.specs.declared.residual.Left.the-variants as left
+use Rattle.frame.specs.declared.SpectralRead.{SpectralRead}
+use Rattle.frame.specs.declared.SpectralRead.the-variants as spectralRead
+use Rattle.frame.specs.declared.Reading.{Reading}
+use Rattle.frame.specs.declared.Answer.the-variants as answer
+
+-- ---- the tables
+
+pub tables : (look cum : List ℕ) → look ≡ lookTable → cum ≡ spectrumTable → SpectrumTables look cum
+tables look cum e f = rw (e, f) spectrum-tables
+
+pub tns-tables : (orders rows : List ℕ) → orders ≡ orderTable → rows ≡ coefficientTable → TnsTables orders rows
+tns-tables orders rows e f = rw (e, f) (record { order = order-row; coefficient = coefficient-row })
+
+-- ---- the working spectrum starts as zeros
+
+zero-line : (n i : ℕ) → getD (replicate n (pos 0)) i (pos 0) ≡ pos 0
+zero-line zero i = refl
+zero-line (suc n) zero = refl
+zero-line (suc n) (suc i) = zero-line n i
+
+zero-level : (n i : ℕ) → getD {A = ℕ} (replicate n 0) i 0 ≡ 0
+zero-level zero i = refl
+zero-level (suc n) zero = refl
+zero-level (suc n) (suc i) = zero-level n i
+
+pub roomy-zeros : (lsb n m : ℕ) → Roomy lsb (replicate n (pos 0)) (replicate m 0)
+roomy-zeros lsb n m i =
+    let e = zero-line n i in
+    let f = zero-level m (i / 2) in
+    (rw e (omega arith), λ h. absurd (omega (arith, f)))
+
+-- ---- the pairs and what follows them
+
+-- the pairs of a frame
+unfoldable pub pairsAt : List ℕ → Setting → Head → Coder → ℕ → Read Streams Spectrum
+pairsAt s r h c p =
+    pairsOf s lookTable spectrumTable (pairSetting r (length s) (h .«lsb_mode»)) (h .«last_line» / 2) 0 0 c p (replicate 400 (pos 0)) (replicate 200 0)
+
+pub pairs-at : (s : List ℕ) (r : Setting) (h : Head) (c : Coder) (p : ℕ) (look cum : List ℕ) (lsb offset n : ℕ) (x : Read Streams Spectrum)
+    → look ≡ lookTable → cum ≡ spectrumTable → lsb ≡ h .«lsb_mode» → offset ≡ rateOffset (r .index) (length s) → n ≡ h .«last_line» / 2
+    → x ≡ pairsOf s look cum (record { lsb = lsb; offset = offset; half = r .lines / 2 }) n 0 0 c p (replicate 400 (pos 0)) (replicate 200 0)
+    → pairsAt s r h c p ≡ x
+unfolding pairsAt
+pairs-at s r h c p look cum lsb offset n x e f l o m q = sym (rw (e, f, l, o, m) at q)
+
+pub spectral-pairs : (s : List ℕ) (r : Setting) (h : Head) (c : Coder) (p k : ℕ) → pairsAt s r h c p ≡ cause k → spectralFrom s r h c p ≡ cause k
+unfolding spectralFrom pairsAt
+spectral-pairs s r h c p k e = rw e
+
+pub spectral-left : (s : List ℕ) (r : Setting) (h : Head) (c d : Coder) (p q k : ℕ) (x : Spectrum)
+    → pairsAt s r h c p ≡ value x (record { coder = d; side = q }) → leftOf (length s) q d ≡ cause k → spectralFrom s r h c p ≡ cause k
+unfolding spectralFrom pairsAt
+spectral-left s r h c d p q k x e f = rw (e, f)
+
+pub spectral-value : (s : List ℕ) (r : Setting) (h : Head) (c d : Coder) (p q left : ℕ) (x : Spectrum)
+    → pairsAt s r h c p ≡ value x (record { coder = d; side = q }) → leftOf (length s) q d ≡ value left q
+    → spectralFrom s r h c p ≡ value (spectralOf s r h x (d .taken) q left) q
+unfolding spectralFrom pairsAt
+spectral-value s r h c d p q left x e f = rw (e, f)
+
+pub spectral-is : (s : List ℕ) (r : Setting) (h : Head) (x : Spectrum) (lsb last n taken q left number : ℕ) (out : List ℤ) (bits : List ℕ)
+    → lsb ≡ h .«lsb_mode» → last ≡ h .«last_line» → n ≡ r .lines
+    → _≡_ {A = Residual} (record { number = number; bits = bits }) (sentBits s lsb n x q left) → out ≡ take n (finishedOf s lsb last x q left)
+    → _≡_ {A = Read ℕ Spectral} (value (record { symbols = taken; lines = out; residual = record { number = number; bits = bits } }) q)
+    (value (spectralOf s r h x taken q left) q)
+spectral-is s r h x lsb last n taken q left number out bits i j m b o =
+    let c : _≡_ {A = Residual} (record { number = number; bits = bits }) (sentBits s (h .«lsb_mode») (r .lines) x q left) = rw (i, m) at b in
+    let d : out ≡ take (r .lines) (finishedOf s (h .«lsb_mode») (h .«last_line») x q left) = rw (i, j, m) at o in
+    ap (λ (t : Residual). value (record { symbols = taken; lines = out; residual = t }) q) c
+    ∙ ap (λ (l : List ℤ). value (record { symbols = taken; lines = l; residual = sentBits s (h .«lsb_mode») (r .lines) x q left }) q) d
+
+-- the two refusals: g is what was answered, k its cause
+pub pairs-refused : (s : List ℕ) (r : Setting) (h : Head) (c : Coder) (p : ℕ) (g : PairsRead) (l : List ℤ) (m : List ℕ) (j k lsb n : ℕ)
+    → pairsAt s r h c p ≡ pairsGiven g l m → g ≡ pairsRead.Cause j → k ≡ pairsCause g → GoodPairs s lsb n c g l m
+    → (cause k ≡ spectralFrom s r h c p) × ((1 ≤ k) × (k ≤ 7))
+pairs-refused s r h c p g l m j k lsb n f i q a =
+    let b : GoodPairs s lsb n c (pairsRead.Cause j) l m = rw i at a in
+    let e : k ≡ j = q ∙ ap pairsCause i in
+    let w = b .0 in
+    let z = b .1 in
+    (ap cause e ∙ sym (spectral-pairs s r h c p j (f ∙ ap (λ (x : PairsRead). pairsGiven x l m) i)), (omega arith, omega arith))
+
+pub left-refused : (s : List ℕ) (r : Setting) (h : Head) (c d : Coder) (p q : ℕ) (x : Spectrum) (g : Left) (j k : ℕ)
+    → pairsAt s r h c p ≡ value x (record { coder = d; side = q }) → leftGiven g q ≡ leftOf (length s) q d → g ≡ left.Cause j → k ≡ leftCause g
+    → GoodLeft (length s) q g → (cause k ≡ spectralFrom s r h c p) × ((1 ≤ k) × (k ≤ 7))
+left-refused s r h c d p q x g j k f o i z a =
+    let b : j ≡ 7 = rw i at a in
+    let e : k ≡ j = z ∙ ap leftCause i in
+    let w : leftOf (length s) q d ≡ cause j = sym o ∙ ap (λ (y : Left). leftGiven y q) i in
+    (ap cause e ∙ sym (spectral-left s r h c d p q j x f w), (omega arith, omega arith))
+
+-- ---- the arithmetic stream
+
+-- the first filter's data, and the second's
+unfoldable pub firstAt : List ℕ → Side → Read Coder Filter
+firstAt s v = filterOf s orderTable coefficientTable (weighting (length s)) (v .flags .«tns_0») (startOf s)
+
+unfoldable pub secondAt : List ℕ → Side → Coder → Read Coder Filter
+secondAt s v c = filterOf s orderTable coefficientTable (weighting (length s)) (v .flags .«tns_1») c
+
+pub first-at : (s : List ℕ) (v : Side) (c : Coder) (orders rows : List ℕ) (w : ℕ) (x : Read Coder Filter) → orders ≡ orderTable
+    → rows ≡ coefficientTable → w ≡ weighting (length s) → c ≡ startOf s → x ≡ filterOf s orders rows w (v .flags .«tns_0») c → firstAt s v ≡ x
+unfolding firstAt
+first-at s v c orders rows w x e f l o q = sym (rw (e, f, l, o) at q)
+
+pub second-at : (s : List ℕ) (v : Side) (c : Coder) (orders rows : List ℕ) (w : ℕ) (x : Read Coder Filter) → orders ≡ orderTable
+    → rows ≡ coefficientTable → w ≡ weighting (length s) → x ≡ filterOf s orders rows w (v .flags .«tns_1») c → secondAt s v c ≡ x
+unfolding secondAt
+second-at s v c orders rows w x e f l q = sym (rw (e, f, l) at q)
+
+pub arithmetic-first : (s : List ℕ) (r : Setting) (v : Side) (p k : ℕ) → firstAt s v ≡ cause k → arithmeticFrom s r v p ≡ cause k
+unfolding arithmeticFrom firstAt
+arithmetic-first s r v p k e = rw e
+
+pub arithmetic-second : (s : List ℕ) (r : Setting) (v : Side) (p k : ℕ) (f : Filter) (c : Coder) → firstAt s v ≡ value f c
+    → secondAt s v c ≡ cause k → arithmeticFrom s r v p ≡ cause k
+unfolding arithmeticFrom firstAt secondAt
+arithmetic-second s r v p k f c e g = rw (e, g)
+
+pub arithmetic-third : (s : List ℕ) (r : Setting) (v : Side) (p k : ℕ) (f g : Filter) (c d : Coder) → firstAt s v ≡ value f c
+    → secondAt s v c ≡ value g d → spectralFrom s r (v .head) d p ≡ cause k → arithmeticFrom s r v p ≡ cause k
+unfolding arithmeticFrom firstAt secondAt
+arithmetic-third s r v p k f g c d e i j = rw (e, i, j)
+
+pub arithmetic-value : (s : List ℕ) (r : Setting) (v : Side) (p q : ℕ) (f g : Filter) (c d : Coder) (y : Spectral) → firstAt s v ≡ value f c
+    → secondAt s v c ≡ value g d → spectralFrom s r (v .head) d p ≡ value y q
+    → arithmeticFrom s r v p ≡ value (record { side = v; first = f; second = g; spectral = y }) q
+unfolding arithmeticFrom firstAt secondAt
+arithmetic-value s r v p q f g c d y e i j = rw (e, i, j)
+
+-- no symbol was taken at the start
+pub start-taken : (s : List ℕ) (c : Coder) → c ≡ startOf s → c .taken ≡ 0
+start-taken s c e = ap (λ (x : Coder). x .taken) e
+
+-- the three refusals: g is what was answered, k its cause
+filter-cause : (s : List ℕ) (c : Coder) (g : FilterRead) (j k : ℕ) → g ≡ filter.Cause j → k ≡ filterCause g → GoodFilter s c g
+    → (j ≡ k) × ((1 ≤ k) × (k ≤ 7))
+filter-cause s c g j k i q a =
+    let b : GoodFilter s c (filter.Cause j) = rw i at a in
+    let e : k ≡ j = q ∙ ap filterCause i in
+    let w = b .0 in
+    let z = b .1 in
+    (sym e, (omega arith, omega arith))
+
+pub first-refused : (s : List ℕ) (r : Setting) (v : Side) (p : ℕ) (c : Coder) (g : FilterRead) (l : List ℕ) (j k : ℕ) → firstAt s v ≡ filterGiven g l
+    → g ≡ filter.Cause j → k ≡ filterCause g → GoodFilter s c g → (arithmeticFrom s r v p ≡ cause k) × ((1 ≤ k) × (k ≤ 7))
+first-refused s r v p c g l j k f i q a =
+    let b = filter-cause s c g j k i q a in
+    (arithmetic-first s r v p k (f ∙ ap (λ (x : FilterRead). filterGiven x l) i ∙ ap cause (b .0)), b .1)
+
+pub second-refused : (s : List ℕ) (r : Setting) (v : Side) (p : ℕ) (o : Filter) (c : Coder) (g : FilterRead) (l : List ℕ) (j k : ℕ)
+    → firstAt s v ≡ value o c → secondAt s v c ≡ filterGiven g l → g ≡ filter.Cause j → k ≡ filterCause g → GoodFilter s c g
+    → (arithmeticFrom s r v p ≡ cause k) × ((1 ≤ k) × (k ≤ 7))
+second-refused s r v p o c g l j k h f i q a =
+    let b = filter-cause s c g j k i q a in
+    (arithmetic-second s r v p k o c h (f ∙ ap (λ (x : FilterRead). filterGiven x l) i ∙ ap cause (b .0)), b .1)
+
+pub third-refused : (s : List ℕ) (r : Setting) (v : Side) (p : ℕ) (o u : Filter) (c d : Coder) (g : SpectralRead) (lines : List ℤ) (bits : List ℕ)
+    (j k last : ℕ) → firstAt s v ≡ value o c → secondAt s v c ≡ value u d → spectralGiven g lines bits ≡ spectralFrom s r (v .head) d p
+    → g ≡ spectralRead.Cause j → k ≡ spectralCause g → GoodSpectral last g lines → (arithmeticFrom s r v p ≡ cause k) × ((1 ≤ k) × (k ≤ 7))
+third-refused s r v p o u c d g lines bits j k last h w f i q a =
+    let b : GoodSpectral last (spectralRead.Cause j) lines = rw i at a in
+    let e : k ≡ j = q ∙ ap spectralCause i in
+    let y = b .0 in
+    let z = b .1 in
+    let t : spectralFrom s r (v .head) d p ≡ cause k = sym f ∙ ap (λ (x : SpectralRead). spectralGiven x lines bits) i ∙ ap cause (sym e) in
+    (arithmetic-third s r v p k o u c d h w t, (omega arith, omega arith))
+
+-- ---- the answer and both buffers, as a judgement j asks
+
+abbrev pub Answers : Reading → Judged → List ℤ → List ℤ → List ℕ → List ℕ → Type 0
+Answers o j spectrum spectrum′ residual residual′ =
+    (told o ≡ givenOf j) × ((spectrum′ ≡ spectrumOf j spectrum) × ((residual′ ≡ residualAfter j residual) × Bounded (o .answer) spectrum′))
+
+-- the same by an equal judgement
+pub answers-by : (o : Reading) (i j : Judged) (spectrum spectrum′ : List ℤ) (residual residual′ : List ℕ) → i ≡ j
+    → Answers o j spectrum spectrum′ residual residual′ → Answers o i spectrum spectrum′ residual residual′
+answers-by o i j spectrum spectrum′ residual residual′ e a = rw e a
+
+pub answers-setting : (o : Reading) (j : Judged) (spectrum : List ℤ) (residual : List ℕ)
+    → o ≡ record { answer = answer.Setting; «tns_coefficients_0» = unused; «tns_coefficients_1» = unused } → j ≡ refused 1 0
+    → Answers o j spectrum spectrum residual residual
+unfolding givenOf
+answers-setting o j spectrum residual e f = rw (e, f) (refl, (refl, (refl, tt)))
+
+pub answers-length : (o : Reading) (j : Judged) (spectrum : List ℤ) (residual : List ℕ)
+    → o ≡ record { answer = answer.Length; «tns_coefficients_0» = unused; «tns_coefficients_1» = unused } → j ≡ refused 2 0
+    → Answers o j spectrum spectrum residual residual
+unfolding givenOf
+answers-length o j spectrum residual e f = rw (e, f) (refl, (refl, (refl, tt)))
+
+pub answers-cause : (o : Reading) (x : Read ℕ Whole) (k : ℕ) (spectrum spectrum′ : List ℤ) (residual residual′ : List ℕ)
+    → o ≡ record { answer = answer.BitError k; «tns_coefficients_0» = unused; «tns_coefficients_1» = unused } → x ≡ cause k
+    → spectrum′ ≡ spectrum → residual′ ≡ residual → (1 ≤ k) × (k ≤ 7)
+    → Answers o (judgedRead x) spectrum spectrum′ residual residual′
+unfolding givenOf
+answers-cause o x k spectrum spectrum′ residual residual′ e f a b h = rw (e, f, a, b) (refl, (refl, (refl, h)))
+
+pub answers-value : (x : Read ℕ Whole) (v : Side) (f g : Filter) (y : Spectral) (q : ℕ) (spectrum : List ℤ) (residual : List ℕ)
+    → x ≡ value (record { side = v; first = f; second = g; spectral = y }) q → (y .symbols ≤ 18 + 7 * v .head .«last_line») × Small (y .lines)
+    → Answers
+    (record {
+      answer = answer.Read (record {
+        side = v;
+        «tns_order_0» = f .order;
+        «tns_order_1» = g .order;
+        «residual_bits» = y .residual .number;
+        symbols = y .symbols;
+      });
+      «tns_coefficients_0» = f .coefficients;
+      «tns_coefficients_1» = g .coefficients;
+    })
+    (judgedRead x) spectrum (y .lines) residual (y .residual .bits)
+unfolding givenOf
+answers-value x v f g y q spectrum residual e h = rw e (refl, (refl, (refl, h)))
+
+-- ---- the steps before the arithmetic stream
+
+pub frame-side : (s : List ℕ) (r : Setting) (k : ℕ) → sideOf s r ≡ cause k → frameOf s r ≡ cause k
+unfolding frameOf
+frame-side s r k e = rw e
+
+pub side-refused : (s : List ℕ) (r : Setting) (g : SideRead) (j k : ℕ) → sideGiven g ≡ sideOf s r → g ≡ side.Cause j → k ≡ sideCause g
+    → GoodSide r g → (frameOf s r ≡ cause k) × ((1 ≤ k) × (k ≤ 7))
+side-refused s r g j k f i q a =
+    let b : GoodSide r (side.Cause j) = rw i at a in
+    let e : k ≡ j = q ∙ ap sideCause i in
+    let w = b .0 in
+    let z = b .1 in
+    (frame-side s r k (sym f ∙ ap sideGiven i ∙ ap cause (sym e)), (omega arith, omega arith))
+
+pub frame-rest : (s : List ℕ) (r : Setting) (v : Side) (p : ℕ) → sideOf s r ≡ value v p → frameOf s r ≡ arithmeticFrom s r v p
+unfolding frameOf
+frame-rest s r v p e = rw e
+
+pub judged-spectrum : (r : Setting) (s : List ℕ) (x b : ℕ) → (x ≡ r .lines → ⊥) → judgedSized r s x b ≡ refused 2 0
+judged-spectrum r s x b h = rw (ne-eqb x (r .lines) h)
+
+pub judged-residual : (r : Setting) (s : List ℕ) (x b : ℕ) → x ≡ r .lines → (b ≡ r .lines → ⊥) → judgedSized r s x b ≡ refused 2 0
+judged-residual r s x b e h = rw (eq-eqb x (r .lines) e, ne-eqb b (r .lines) h)
+
+pub judged-read : (r : Setting) (s : List ℕ) (x b : ℕ) → x ≡ r .lines → b ≡ r .lines → judgedSized r s x b ≡ judgedRead (frameOf s r)
+judged-read r s x b e f = rw (eq-eqb x (r .lines) e, eq-eqb b (r .lines) f)
+
+pub judged-unknown : (khz : ℕ) (s : List ℕ) (x b : ℕ) → rateOf khz ≡ rate.Unknown → judgedOf khz s x b ≡ refused 1 0
+unfolding judgedOf
+judged-unknown khz s x b e = rw e
+
+pub judged-short : (khz : ℕ) (s : List ℕ) (x b : ℕ) (r : Setting) → rateOf khz ≡ rate.Known r → length s < 20 → judgedOf khz s x b ≡ refused 1 0
+unfolding judgedOf
+judged-short khz s x b r e h = rw (e, lt-leb 20 (length s) h)
+
+pub judged-long : (khz : ℕ) (s : List ℕ) (x b : ℕ) (r : Setting) → rateOf khz ≡ rate.Known r → 20 ≤ length s → 400 < length s
+    → judgedOf khz s x b ≡ refused 1 0
+unfolding judgedOf
+judged-long khz s x b r e l h = rw (e, le-leb 20 (length s) l, lt-leb (length s) 400 h)
+
+pub judged-known : (khz : ℕ) (s : List ℕ) (x b : ℕ) (r : Setting) → rateOf khz ≡ rate.Known r → 20 ≤ length s → length s ≤ 400
+    → judgedOf khz s x b ≡ judgedSized r s x b
+unfolding judgedOf
+judged-known khz s x b r e l h = rw (e, le-leb 20 (length s) l, le-leb (length s) 400 h)

@@ -1,0 +1,83 @@
+-- `frame::read` meets its contract. Assumes nothing.
+use borrow.Author.Needs.{needs}
+use Rattle.frame.proofs.read.Statement.{statement}
+use Rattle.frame.proofs.read.Tie as tie
+use mathlib.Core.Path.{_≡_, sym, _∙_}
+use mathlib.Core.Logic.{⊎-elim}
+use native.Mathlib.Omega.{arith}
+use lib.ListN.{length}
+use denote.Ref.{now}
+use Rattle.frame.specs.Frame.{judgedOf, refused}
+use Rattle.frame.proofs.WholeFrame.{answers-by, answers-setting, judged-unknown, judged-short, judged-long, judged-known}
+
+rate-setting-requires : tie.Need-rate-setting-requires
+rate-setting-requires c κs = search needs
+
+enum-known-known : tie.Need-enum-known-known
+enum-known-known c = search needs
+
+enum-told : tie.Need-enum-told
+enum-told c = search needs
+
+refused-requires : tie.Need-refused-requires
+refused-requires c κs = search needs
+
+returns : tie.Need-returns
+returns c =
+    let z = c .before .before .before .before .before .before .args in
+    let e = sym (c .before .before .before .rate-setting .ensures .0) ∙ c .before .enum-told .given .1 in
+    answers-setting (c .refused .result) _ _ _ (c .refused .ensures) (judged-unknown (z .khz) (now (z .frame)) _ _ e)
+
+read-sized-requires : tie.Need-read-sized-requires
+read-sized-requires c κs =
+    let b = c .before .before .before .before .before in
+    let k = rw (b .known .given .1) at (b .before .before .rate-setting .ensures .1) in
+    (k, record { least = omega arith; most = omega arith })
+
+refused-requires-2 : tie.Need-refused-requires-2
+refused-requires-2 c κs = search needs
+
+same-length : tie.Need-same-length
+same-length c = search needs
+
+same-length-2 : tie.Need-same-length-2
+same-length-2 c = search needs
+
+returns-2 : tie.Need-returns-2
+returns-2 c =
+    let r = c .before .before .before .read-sized in
+    let b = c .before .before .before .before .before .before .before .before .before .before .before in
+    let z = b .before .before .before .args in
+    let e = sym (b .rate-setting .ensures .0) ∙ c .before .before .before .before .before .before .before .before .before .known .given .1 in
+    let j = judged-known (z .khz) (now (z .frame)) _ _ _ e (omega arith) (omega arith) in
+    answers-by (r .result) _ _ _ _ _ _ j (r .ensures)
+
+-- a length that no arm but the last takes
+outside : (c : tie.Joined1) → let z = c .before .before .before .before .before .before .before .args in
+    judgedOf (z .khz) (now (z .frame)) (length (now (z .spectrum))) (length (now (z .residual))) ≡ refused 1 0
+outside c =
+    let z = c .before .before .before .before .before .before .before .args in
+    let e = sym (c .before .before .before .before .rate-setting .ensures .0) ∙ c .before .before .known .given .1 in
+    ⊎-elim
+    (λ w. judged-short (z .khz) (now (z .frame)) _ _ _ e (w .taken))
+    (λ w. judged-long (z .khz) (now (z .frame)) _ _ _ e (w .0 .left) (w .1 .left))
+    (c .if1 .came)
+
+returns-3 : tie.Need-returns-3
+returns-3 c = answers-setting (c .refused2 .result) _ _ _ (c .refused2 .ensures) (outside (c .before))
+
+pub read-spec : {M : Type 1} → statement M
+read-spec =
+    tie.close
+    (tie.spec
+    rate-setting-requires
+    enum-known-known
+    enum-told
+    refused-requires
+    returns
+    read-sized-requires
+    refused-requires-2
+    same-length
+    same-length-2
+    returns-2
+    returns-3)

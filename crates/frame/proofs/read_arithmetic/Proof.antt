@@ -1,0 +1,271 @@
+-- `frame::read_arithmetic` meets its contract. Assumes nothing.
+use borrow.Author.Needs.{needs}
+use Rattle.frame.proofs.read_arithmetic.Statement.{statement}
+use Rattle.frame.proofs.read_arithmetic.Tie as tie
+use mathlib.Core.Path.{_≡_, refl, sym, ap, _∙_}
+use native.Mathlib.Omega.{arith}
+use denote.Ref.{now}
+use Rattle.frame.specs.Read.{value}
+use Rattle.frame.specs.Tns.{Filter, filterGiven}
+use Rattle.frame.specs.Frame.{spectralGiven}
+use Rattle.frame.specs.declared.coder.Coder.{Coder}
+use Rattle.frame.specs.declared.tns.FilterRead.{FilterRead}
+use Rattle.frame.specs.declared.SpectralRead.{SpectralRead}
+use Rattle.frame.proofs.WholeFrame.{tns-tables, start-taken, firstAt, secondAt, first-at, second-at, arithmetic-value, answers-cause, answers-value}
+use Rattle.frame.proofs.WholeFrame.{first-refused, second-refused, third-refused}
+
+-- the places that several needs look back to
+abbrev entry : tie.After-start → tie.Start
+entry s = s .before .before .before .before .before .before .before
+
+abbrev started : tie.After-filter → tie.After-start
+started f = f .before .before .before .before
+
+abbrev first : tie.After-known-told → tie.After-filter
+first b = b .before .before .before .before
+
+abbrev before-second : tie.After-filter2 → tie.After-known-told
+before-second g = g .before .before .before .before
+
+abbrev second : tie.After-known-told2 → tie.After-filter2
+second b = b .before .before .before .before
+
+tns-order-requires : tie.Need-tns-order-requires
+tns-order-requires c κs = search needs
+
+tns-coefficients-requires : tie.Need-tns-coefficients-requires
+tns-coefficients-requires c κs = search needs
+
+tns-weighting-requires : tie.Need-tns-weighting-requires
+tns-weighting-requires c κs = search needs
+
+start-requires : tie.Need-start-requires
+start-requires c κs = search needs
+
+slice-aggregate-filter : tie.Need-slice-aggregate-filter
+slice-aggregate-filter c = search needs
+
+slice-aggregate-filter-2 : tie.Need-slice-aggregate-filter-2
+slice-aggregate-filter-2 c = search needs
+
+slice-aggregate-filter-3 : tie.Need-slice-aggregate-filter-3
+slice-aggregate-filter-3 c = search needs
+
+filter-requires : tie.Need-filter-requires
+filter-requires c κs =
+    let s = c .before .before .before in
+    let z = entry s in
+    let t = start-taken (now (z .args .frame)) (s .start .result) (s .start .ensures .0) in (
+      z .pre .1,
+      tns-tables _ _ (s .before .before .before .before .tns-order .ensures) (s .before .before .before .tns-coefficients .ensures),
+      s .before .before .tns-weighting .ensures .1,
+      refl,
+      s .start .ensures .1,
+      omega (arith, t),
+    )
+
+enum-known-got : tie.Need-enum-known-got
+enum-known-got c = search needs
+
+enum-told : tie.Need-enum-told
+enum-told c = search needs
+
+filter-cause-requires : tie.Need-filter-cause-requires
+filter-cause-requires c κs = search needs
+
+refused-requires : tie.Need-refused-requires
+refused-requires c κs = search needs
+
+-- the first filter, as it was read
+first-found : (f : tie.After-filter)
+    → firstAt (now (entry (started f) .args .frame)) (entry (started f) .args .v) ≡ filterGiven (f .filter .result) (f .filter .last .1 .1 .1 .1 .1 .0)
+first-found f =
+    let s = started f in
+    let z = entry s .args in
+    let o = s .before .before .before .before .tns-order .ensures in
+    let k = s .before .before .before .tns-coefficients .ensures in
+    first-at (now (z .frame)) (z .v) _ _ _ _ _ o k (s .before .before .tns-weighting .ensures .0)
+    (s .start .ensures .0) (f .filter .ensures .0)
+
+abbrev filter-1 : tie.After-known-told → Filter
+filter-1 b = record { order = b .before .got .given .0 .0; coefficients = first b .filter .last .1 .1 .1 .1 .1 .0 }
+
+abbrev coder-1 : tie.After-known-told → Coder
+coder-1 b = b .before .got .given .0 .1 .0
+
+first-taken : (b : tie.After-known-told)
+    → firstAt (now (entry (started (first b)) .args .frame)) (entry (started (first b)) .args .v) ≡ value (filter-1 b) (coder-1 b)
+first-taken b = first-found (first b) ∙ ap (λ (g : FilterRead). filterGiven g (first b .filter .last .1 .1 .1 .1 .1 .0)) (b .before .got .given .1)
+
+returns : tie.Need-returns
+returns c =
+    let f = c .before .before .before .before .before in
+    let z = entry (started f) .args in
+    let i = c .before .before .enum-told .given .1 in
+    let e = first-refused _ (z .r) _ (z .p) _ (f .filter .result) _ _ _ (first-found f) i (c .before .filter-cause .ensures) (f .filter .ensures .1) in
+    answers-cause (c .refused .result) _ _ _ _ _ _ (c .refused .ensures) (e .0) refl refl (e .1)
+
+slice-aggregate-filter-4 : tie.Need-slice-aggregate-filter-4
+slice-aggregate-filter-4 c = search needs
+
+slice-aggregate-filter-5 : tie.Need-slice-aggregate-filter-5
+slice-aggregate-filter-5 c = search needs
+
+slice-aggregate-filter-6 : tie.Need-slice-aggregate-filter-6
+slice-aggregate-filter-6 c = search needs
+
+filter-requires-2 : tie.Need-filter-requires-2
+filter-requires-2 c κs =
+    let b = c .before .before .before in
+    let s = started (first b) in
+    let z = entry s in
+    let t = start-taken (now (z .args .frame)) (s .start .result) (s .start .ensures .0) in
+    let g = rw (b .before .got .given .1) at (b .before .before .before .before .filter .ensures .1) in (
+      z .pre .1,
+      tns-tables _ _ (s .before .before .before .before .tns-order .ensures) (s .before .before .before .tns-coefficients .ensures),
+      s .before .before .tns-weighting .ensures .1,
+      refl,
+      g .2,
+      omega (arith, t, g .1),
+    )
+
+enum-known-got2 : tie.Need-enum-known-got2
+enum-known-got2 c = search needs
+
+enum-told-2 : tie.Need-enum-told-2
+enum-told-2 c = search needs
+
+filter-cause-requires-2 : tie.Need-filter-cause-requires-2
+filter-cause-requires-2 c κs = search needs
+
+refused-requires-2 : tie.Need-refused-requires-2
+refused-requires-2 c κs = search needs
+
+-- the second filter, as it was read
+second-found : (g : tie.After-filter2) → let z = entry (started (first (before-second g))) .args in
+    secondAt (now (z .frame)) (z .v) (coder-1 (before-second g)) ≡ filterGiven (g .filter2 .result) (g .filter2 .last .1 .1 .1 .1 .1 .0)
+second-found g =
+    let s = started (first (before-second g)) in
+    let z = entry s .args in
+    let o = s .before .before .before .before .tns-order .ensures in
+    let k = s .before .before .before .tns-coefficients .ensures in
+    second-at (now (z .frame)) (z .v) _ _ _ _ _ o k (s .before .before .tns-weighting .ensures .0)
+    (g .filter2 .ensures .0)
+
+abbrev filter-2 : tie.After-known-told2 → Filter
+filter-2 b = record { order = b .before .got2 .given .0 .0; coefficients = second b .filter2 .last .1 .1 .1 .1 .1 .0 }
+
+second-taken : (b : tie.After-known-told2) → let z = entry (started (first (before-second (second b)))) .args in
+    secondAt (now (z .frame)) (z .v) (coder-1 (before-second (second b))) ≡ value (filter-2 b) (b .before .got2 .given .0 .1 .0)
+second-taken b = second-found (second b) ∙ ap (λ (g : FilterRead). filterGiven g (second b .filter2 .last .1 .1 .1 .1 .1 .0)) (b .before .got2 .given .1)
+
+returns-2 : tie.Need-returns-2
+returns-2 c =
+    let g = c .before .before .before .before .before in
+    let b = before-second g in
+    let z = entry (started (first b)) .args in
+    let i = c .before .before .enum-told2 .given .1 in
+    let k = c .before .filter-cause2 .ensures in
+    let e = second-refused _ (z .r) _ (z .p) _ _ (g .filter2 .result) _ _ _ (first-taken b) (second-found g) i k (g .filter2 .ensures .1) in
+    answers-cause (c .refused2 .result) _ _ _ _ _ _ (c .refused2 .ensures) (e .0) refl refl (e .1)
+
+read-spectral-requires : tie.Need-read-spectral-requires
+read-spectral-requires c κs =
+    let b = c .before .before in
+    let d = b .before .before .before .before .before .before .before .before in
+    let s = started (first d) in
+    let z = entry s in
+    let t = start-taken (now (z .args .frame)) (s .start .result) (s .start .ensures .0) in
+    let g = rw (d .before .got .given .1) at (d .before .before .before .before .filter .ensures .1) in
+    let h = rw (b .before .got2 .given .1) at (b .before .before .before .before .filter2 .ensures .1) in
+    (z .pre .0, z .pre .1, z .pre .2 .2, z .pre .2 .1, z .pre .2 .3, h .2, omega (arith, t, g .1, h .1), z .pre .2 .6, z .pre .3, z .pre .4)
+
+enum-known-got3 : tie.Need-enum-known-got3
+enum-known-got3 c = search needs
+
+enum-told-3 : tie.Need-enum-told-3
+enum-told-3 c = search needs
+
+spectral-cause-requires : tie.Need-spectral-cause-requires
+spectral-cause-requires c κs = search needs
+
+refused-requires-3 : tie.Need-refused-requires-3
+refused-requires-3 c κs = search needs
+
+same-length : tie.Need-same-length
+same-length c = search needs
+
+same-length-2 : tie.Need-same-length-2
+same-length-2 c = search needs
+
+returns-3 : tie.Need-returns-3
+returns-3 c =
+    let n = c .before .before .before .before in
+    let r = n .before .before .before .read-spectral in
+    let b = n .before .before .before .before .before .before in
+    let d = before-second (second b) in
+    let z = entry (started (first d)) .args in
+    let i = c .before .before .enum-told3 .given .1 in
+    let q = c .before .spectral-cause .ensures in
+    let e = third-refused _ (z .r) _ (z .p) _ _ _ _ (r .result) _ _ _ _ _ (first-taken d) (second-taken b) (r .ensures .0) i q (r .ensures .1 .1) in
+    let k = rw i at (r .ensures .1 .0) in
+    answers-cause (c .refused3 .result) _ _ _ _ _ _ (c .refused3 .ensures) (e .0) (k .0) (k .1) (e .1)
+
+same-length-3 : tie.Need-same-length-3
+same-length-3 c = search needs
+
+same-length-4 : tie.Need-same-length-4
+same-length-4 c = search needs
+
+returns-4 : tie.Need-returns-4
+returns-4 c =
+    let n = c .before .before .before in
+    let r = n .before .before .before .read-spectral in
+    let b = n .before .before .before .before .before .before in
+    let d = before-second (second b) in
+    let z = entry (started (first d)) .args in
+    let i = c .before .got3 .given .1 in
+    let l = r .last .1 .1 .1 .1 .1 .0 in
+    let m = r .last .1 .1 .1 .1 .1 .1 .0 in
+    let g = rw i at (r .ensures .1 .1) in
+    let f = sym (r .ensures .0) ∙ ap (λ (y : SpectralRead). spectralGiven y l m) i in
+    let e = arithmetic-value _ (z .r) _ (z .p) _ _ _ _ _ _ (first-taken d) (second-taken b) f in
+    answers-value _ (z .v) _ _ _ _ _ _ e g
+
+pub read-arithmetic-spec : {M : Type 1} → statement M
+read-arithmetic-spec =
+    tie.close
+    (tie.spec
+    tns-order-requires
+    tns-coefficients-requires
+    tns-weighting-requires
+    start-requires
+    slice-aggregate-filter
+    slice-aggregate-filter-2
+    slice-aggregate-filter-3
+    filter-requires
+    enum-known-got
+    enum-told
+    filter-cause-requires
+    refused-requires
+    returns
+    slice-aggregate-filter-4
+    slice-aggregate-filter-5
+    slice-aggregate-filter-6
+    filter-requires-2
+    enum-known-got2
+    enum-told-2
+    filter-cause-requires-2
+    refused-requires-2
+    returns-2
+    read-spectral-requires
+    enum-known-got3
+    enum-told-3
+    spectral-cause-requires
+    refused-requires-3
+    same-length
+    same-length-2
+    returns-3
+    same-length-3
+    same-length-4
+    returns-4)

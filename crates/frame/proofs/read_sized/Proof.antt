@@ -1,0 +1,92 @@
+-- `frame::read_sized` meets its contract. Assumes nothing.
+use borrow.Author.Needs.{needs}
+use Rattle.frame.proofs.read_sized.Statement.{statement}
+use Rattle.frame.proofs.read_sized.Tie as tie
+use mathlib.Core.Path.{refl, sym, ap, _∙_}
+use denote.Ref.{now}
+use Rattle.frame.specs.Side.{sideGiven}
+use Rattle.frame.specs.Frame.{judgedRead}
+use Rattle.frame.proofs.WholeFrame.{answers-by, answers-length, answers-cause, judged-spectrum, judged-residual, judged-read, side-refused, frame-rest}
+
+refused-requires : tie.Need-refused-requires
+refused-requires c κs = search needs
+
+returns : tie.Need-returns
+returns c =
+    let z = c .before .before .before .before .args in
+    answers-length (c .refused .result) _ _ _ (c .refused .ensures) (judged-spectrum (z .r) (now (z .frame)) _ _ (c .before .if1 .taken))
+
+refused-requires-2 : tie.Need-refused-requires-2
+refused-requires-2 c κs = search needs
+
+returns-2 : tie.Need-returns-2
+returns-2 c =
+    let z = c .before .before .before .before .before .args in
+    let j = judged-residual (z .r) (now (z .frame)) _ _ (c .before .before .if1 .left) (c .before .if2 .taken) in
+    answers-length (c .refused2 .result) _ _ _ (c .refused2 .ensures) j
+
+read-side-requires : tie.Need-read-side-requires
+read-side-requires c κs = search needs
+
+enum-known-got : tie.Need-enum-known-got
+enum-known-got c = search needs
+
+enum-told : tie.Need-enum-told
+enum-told c = search needs
+
+side-cause-requires : tie.Need-side-cause-requires
+side-cause-requires c κs = search needs
+
+refused-requires-3 : tie.Need-refused-requires-3
+refused-requires-3 c κs = search needs
+
+returns-3 : tie.Need-returns-3
+returns-3 c =
+    let b = c .before .before .before .before in
+    let z = b .before .before .before .before .before .args in
+    let r = b .read-side in
+    let k = c .before .side-cause .ensures in
+    let e = side-refused (now (z .frame)) (z .r) (r .result) _ _ (r .ensures .0) (c .before .before .enum-told .given .1) k (r .ensures .1) in
+    let j = judged-read (z .r) (now (z .frame)) _ _ (b .before .before .if1 .left) (b .before .if2 .left) in
+    answers-by (c .refused3 .result) _ _ _ _ _ _ j (answers-cause (c .refused3 .result) _ _ _ _ _ _ (c .refused3 .ensures) (e .0) refl refl (e .1))
+
+read-arithmetic-requires : tie.Need-read-arithmetic-requires
+read-arithmetic-requires c κs =
+    let b = c .before .before .before .before .before in
+    let z = b .before .before .before .before .before .pre in
+    let g = rw (c .before .before .before .got .given .1) at (b .read-side .ensures .1) in
+    (z .0, z .1, g, b .before .before .if1 .left, b .before .if2 .left)
+
+same-length : tie.Need-same-length
+same-length c = search needs
+
+same-length-2 : tie.Need-same-length-2
+same-length-2 c = search needs
+
+returns-4 : tie.Need-returns-4
+returns-4 c =
+    let r = c .before .before .before .read-arithmetic in
+    let b = c .before .before .before .before .before .before .before .before .before in
+    let z = b .before .before .before .before .before .args in
+    let j = judged-read (z .r) (now (z .frame)) _ _ (b .before .before .if1 .left) (b .before .if2 .left) in
+    let f = sym (b .read-side .ensures .0) ∙ ap sideGiven (c .before .before .before .before .before .before .before .got .given .1) in
+    answers-by (r .result) _ _ _ _ _ _ (j ∙ ap judgedRead (frame-rest (now (z .frame)) (z .r) _ _ f)) (r .ensures)
+
+pub read-sized-spec : {M : Type 1} → statement M
+read-sized-spec =
+    tie.close
+    (tie.spec
+    refused-requires
+    returns
+    refused-requires-2
+    returns-2
+    read-side-requires
+    enum-known-got
+    enum-told
+    side-cause-requires
+    refused-requires-3
+    returns-3
+    read-arithmetic-requires
+    same-length
+    same-length-2
+    returns-4)

@@ -1,0 +1,219 @@
+-- `frame::read_spectral` meets its contract. Assumes nothing.
+use borrow.Author.Needs.{needs}
+use Rattle.frame.proofs.read_spectral.Statement.{statement}
+use Rattle.frame.proofs.read_spectral.Tie as tie
+use mathlib.Core.Path.{_≡_, refl, sym, ap, _∙_}
+use native.Mathlib.Omega.{arith}
+use denote.Ref.{now}
+use Rattle.frame.specs.Read.{Read, value}
+use Rattle.frame.specs.Pairs.{Streams, Spectrum, pairsGiven}
+use Rattle.frame.specs.Residual.{leftGiven}
+use Rattle.frame.specs.declared.pairs.PairsRead.{PairsRead}
+use Rattle.frame.specs.declared.residual.Left.{Left}
+use Rattle.frame.proofs.WholeFrame.{tables, roomy-zeros, pairsAt, pairs-at, pairs-refused, left-refused, spectral-value, spectral-is}
+
+-- the places that several needs look back to
+abbrev entry : tie.After-rate-offset → tie.Start
+entry o = o .before .before .before .before .before .before .before
+
+abbrev offset : tie.After-read-pairs → tie.After-rate-offset
+offset a = a .before .before .before .before .before .before
+
+abbrev pairs : tie.After-known-told → tie.After-read-pairs
+pairs b = b .before .before .before .before .before
+
+lookup-requires : tie.Need-lookup-requires
+lookup-requires c κs = search needs
+
+spectrum-requires : tie.Need-spectrum-requires
+spectrum-requires c κs = search needs
+
+wide-requires : tie.Need-wide-requires
+wide-requires c κs = search needs
+
+cast-last : tie.Need-cast-last
+cast-last c = search needs
+
+rate-offset-requires : tie.Need-rate-offset-requires
+rate-offset-requires c κs = search needs
+
+slice-aggregate-read-pairs : tie.Need-slice-aggregate-read-pairs
+slice-aggregate-read-pairs c = search needs
+
+slice-aggregate-read-pairs-2 : tie.Need-slice-aggregate-read-pairs-2
+slice-aggregate-read-pairs-2 c = search needs
+
+slice-aggregate-read-pairs-3 : tie.Need-slice-aggregate-read-pairs-3
+slice-aggregate-read-pairs-3 c = search needs
+
+slice-aggregate-read-pairs-4 : tie.Need-slice-aggregate-read-pairs-4
+slice-aggregate-read-pairs-4 c = search needs
+
+read-pairs-requires : tie.Need-read-pairs-requires
+read-pairs-requires c κs =
+    let o = c .before .before .before .before .before in
+    let z = entry o .pre in
+    let w = o .before .before .wide .ensures .0 in
+    let t = tables _ _ (o .before .before .before .before .lookup .ensures) (o .before .before .before .spectrum .ensures) in (
+      z .1,
+      t,
+      omega (arith, w, z .4),
+      o .rate-offset .ensures .1,
+      omega (arith, z .0 .lines, z .2),
+      z .5,
+      z .6,
+      omega (arith, z .1 .least, z .7),
+      refl,
+      refl,
+      roomy-zeros _ 400 200,
+    )
+
+enum-known-got : tie.Need-enum-known-got
+enum-known-got c = search needs
+
+enum-told : tie.Need-enum-told
+enum-told c = search needs
+
+pairs-cause-requires : tie.Need-pairs-cause-requires
+pairs-cause-requires c κs = search needs
+
+-- the pairs: the definition's, and as they were read
+abbrev asked : tie.After-read-pairs → Read Streams Spectrum
+asked a = let z = entry (offset a) .args in pairsAt (now (z .frame)) (z .r) (z .h) (z .c) (z .p)
+
+abbrev spectrum : tie.After-read-pairs → Spectrum
+spectrum a = record { lines = a .read-pairs .last .1 .1 .1 .1 .1 .1 .1 .0; levels = a .read-pairs .last .1 .1 .1 .1 .1 .1 .1 .1 .0 }
+
+found : (a : tie.After-read-pairs) → asked a ≡ pairsGiven (a .read-pairs .result) (spectrum a .lines) (spectrum a .levels)
+found a =
+    let o = offset a in
+    let z = entry o .args in
+    let l = o .before .before .before .before .lookup .ensures in
+    let s = o .before .before .before .spectrum .ensures in
+    pairs-at (now (z .frame)) (z .r) (z .h) (z .c) (z .p) _ _ _ _ _ _ l s
+    (o .before .before .wide .ensures .0) (o .rate-offset .ensures .0) refl (a .read-pairs .ensures .0)
+
+taken : (b : tie.After-known-told)
+    → asked (pairs b) ≡ value (spectrum (pairs b)) (record { coder = b .before .got .given .0 .0; side = b .before .got .given .0 .1 .0 })
+taken b =
+    let x = spectrum (pairs b) in
+    found (pairs b) ∙ ap (λ (g : PairsRead). pairsGiven g (x .lines) (x .levels)) (b .before .got .given .1)
+
+returns : tie.Need-returns
+returns c =
+    let a = c .before .before .before .before .before in
+    let r = a .read-pairs in
+    let e = pairs-refused _ _ _ _ _ (r .result) _ _ _ _ _ _ (found a) (c .before .enum-told .given .1) (c .pairs-cause .ensures) (r .ensures .1) in
+    (e .0, ((refl, refl), e .1))
+
+bits-left-requires : tie.Need-bits-left-requires
+bits-left-requires c κs =
+    let g = rw (c .before .got .given .1) at (c .before .before .before .before .before .read-pairs .ensures .1) in
+    (entry (offset (pairs c)) .pre .1 .most, g .1, g .2 .at, g .2 .end, g .2 .range)
+
+enum-known-got2 : tie.Need-enum-known-got2
+enum-known-got2 c = search needs
+
+enum-told-2 : tie.Need-enum-told-2
+enum-told-2 c = search needs
+
+left-cause-requires : tie.Need-left-cause-requires
+left-cause-requires c κs = search needs
+
+returns-2 : tie.Need-returns-2
+returns-2 c =
+    let b = c .before .before .before .before in
+    let l = c .before .before .before .bits-left in
+    let i = c .before .enum-told2 .given .1 in
+    let e = left-refused _ _ _ _ _ _ _ _ (l .result) _ _ (taken b) (l .ensures .0) i (c .left-cause .ensures) (l .ensures .1) in
+    (e .0, ((refl, refl), e .1))
+
+slice-aggregate-finish : tie.Need-slice-aggregate-finish
+slice-aggregate-finish c = search needs
+
+slice-aggregate-finish-2 : tie.Need-slice-aggregate-finish-2
+slice-aggregate-finish-2 c = search needs
+
+finish-requires : tie.Need-finish-requires
+finish-requires c κs =
+    let b = c .before .before .before .before .before .before .before .before in
+    let z = entry (offset (pairs b)) .pre in
+    let g = rw (b .before .got .given .1) at (b .before .before .before .before .before .read-pairs .ensures .1) in
+    let w = offset (pairs b) .before .before .wide .ensures .0 in
+    let k = c .before .before .before .before .before in
+    let l = rw (k .got2 .given .1) at (k .before .before .bits-left .ensures .1) in (
+      z .1,
+      omega (arith, w, z .4),
+      omega (arith, z .2, z .0 .lines),
+      search needs,
+      search needs,
+      omega (arith, l),
+      g .3,
+      omega (arith, z .8, z .0 .lines),
+      z .9 ∙ sym (z .8),
+    )
+
+cast-symbols : tie.Need-cast-symbols
+cast-symbols c =
+    let b = c .before .before .before .before .before .before .before .before .before .before .before .before .before .before in
+    let z = entry (offset (pairs b)) .pre in
+    let g = rw (b .before .got .given .1) at (b .before .before .before .before .before .read-pairs .ensures .1) in
+    record { fits = omega (arith, g .0, z .0 .lines, z .2, z .6) }
+
+cast-number : tie.Need-cast-number
+cast-number c = search needs
+
+same-length : tie.Need-same-length
+same-length c = search needs
+
+same-length-2 : tie.Need-same-length-2
+same-length-2 c = search needs
+
+returns-3 : tie.Need-returns-3
+returns-3 c =
+    let f = c .before .before .before .before .before .finish in
+    let b = c .before .before .before .before .before .before .before .before .before .before .before .before .before .before in
+    let z = entry (offset (pairs b)) in
+    let a = z .args in
+    let d = b .before .got .given .0 .0 in
+    let q = b .before .got .given .0 .1 .0 in
+    let x = spectrum (pairs b) in
+    let g = rw (b .before .got .given .1) at (b .before .before .before .before .before .read-pairs .ensures .1) in
+    let w = offset (pairs b) .before .before .wide .ensures .0 in
+    let k = c .before .before .before .before .before .before .before .before .before .before .before in
+    let l = sym (k .before .before .bits-left .ensures .0) ∙ ap (λ (y : Left). leftGiven y q) (k .got2 .given .1) in
+    let e = spectral-value (now (a .frame)) (a .r) (a .h) (a .c) d (a .p) q _ x (taken b) l in
+    let i = spectral-is (now (a .frame)) (a .r) (a .h) x _ _ _ (d .taken) q _ _ _ _ w refl (z .pre .8) (f .ensures .0) (f .ensures .1 .0) in
+    (i ∙ sym e, (tt, (omega (arith, g .0, z .pre .6, z .pre .3), f .ensures .1 .1 .0)))
+
+pub read-spectral-spec : {M : Type 1} → statement M
+read-spectral-spec =
+    tie.close
+    (tie.spec
+    lookup-requires
+    spectrum-requires
+    wide-requires
+    cast-last
+    rate-offset-requires
+    slice-aggregate-read-pairs
+    slice-aggregate-read-pairs-2
+    slice-aggregate-read-pairs-3
+    slice-aggregate-read-pairs-4
+    read-pairs-requires
+    enum-known-got
+    enum-told
+    pairs-cause-requires
+    returns
+    bits-left-requires
+    enum-known-got2
+    enum-told-2
+    left-cause-requires
+    returns-2
+    slice-aggregate-finish
+    slice-aggregate-finish-2
+    finish-requires
+    cast-symbols
+    cast-number
+    same-length
+    same-length-2
+    returns-3)

@@ -1,0 +1,181 @@
+-- A whole frame (5.4.2), in the order of reading; and what the reader answers: document 01's number, the cause, and the values.
+-- Assumes nothing.
+use mathlib.Core.Path.{_≡_}
+use mathlib.Core.Bool.{Bool, _&&_, cond}
+use mathlib.Core.List.{List, [], _∷_}
+use Prim.Native.Nat.{ℕ, zero, suc, _/_}
+use lib.Dec.{leb, eqb}
+use lib.ListN.{length, take, replicate}
+use lib.IntN.{ℤ, pos}
+use Rattle.coder_tables.specs.Tables.{lookTable, spectrumTable, orderTable, coefficientTable}
+use Rattle.frame.specs.Read.{Read, value, cause, andThen}
+use Rattle.frame.specs.Settings.{rateOf, rateOffset, weighting}
+use Rattle.frame.specs.Side.{sideOf}
+use Rattle.frame.specs.Symbol.{startOf}
+use Rattle.frame.specs.Tns.{Filter, filterOf, unused}
+use Rattle.frame.specs.Pairs.{Streams, Spectrum, pairsOf}
+use Rattle.frame.specs.Residual.{Residual, leftOf, residualOf, latesOf}
+use Rattle.frame.specs.declared.settings.Setting.{Setting}
+use Rattle.frame.specs.declared.settings.Rate.{Rate}
+use Rattle.frame.specs.declared.settings.Rate.the-variants as rate
+use Rattle.frame.specs.declared.side.Side.{Side}
+use Rattle.frame.specs.declared.coder.Coder.{Coder}
+use Rattle.frame.specs.declared.side.Head.{Head}
+use Rattle.frame.specs.declared.pairs.PairSetting.{PairSetting}
+use Rattle.frame.specs.declared.SpectralRead.{SpectralRead}
+use Rattle.frame.specs.declared.SpectralRead.the-variants as spectralRead
+use Rattle.frame.specs.declared.Fields.{Fields}
+use Rattle.frame.specs.declared.Reading.{Reading}
+use Rattle.frame.specs.declared.Answer.{Answer}
+use Rattle.frame.specs.declared.Answer.the-variants as answer
+
+-- what follows the TNS data: the number of symbols taken, the lines and the residual bits, NE entries each
+pub record Spectral : Type 0 where
+  pub symbols : ℕ
+  pub lines : List ℤ
+  pub residual : Residual
+
+-- what an accepted frame holds
+pub record Whole : Type 0 where
+  pub side : Side
+  pub first : Filter
+  pub second : Filter
+  pub spectral : Spectral
+
+-- what the pairs are read with
+abbrev pub pairSetting : Setting → ℕ → ℕ → PairSetting
+pairSetting r bytes lsb = record { lsb = lsb; offset = rateOffset (r .index) bytes; half = r .lines / 2 }
+
+-- 5.4.2.8: in LSB mode 1 the late low bits go into the lines
+abbrev pub finishedOf : List ℕ → ℕ → ℕ → Spectrum → ℕ → ℕ → List ℤ
+finishedOf s lsb last x p left = cond (eqb lsb 0) (x .lines) (latesOf s (x .levels) last 0 (x .lines) p left)
+
+-- 5.4.2.8: residual bits only in LSB mode 0; unused entries are 0
+abbrev pub sentBits : List ℕ → ℕ → ℕ → Spectrum → ℕ → ℕ → Residual
+sentBits s lsb lines x p left =
+    cond (eqb lsb 0) (residualOf s (x .lines) p left lines 0 0 (replicate lines 0)) (record { number = 0; bits = replicate lines 0 })
+
+abbrev pub spectralOf : List ℕ → Setting → Head → Spectrum → ℕ → ℕ → ℕ → Spectral
+spectralOf s r h x symbols p left =
+    record {
+      symbols = symbols;
+      lines = take (r .lines) (finishedOf s (h .«lsb_mode») (h .«last_line») x p left);
+      residual = sentBits s (h .«lsb_mode») (r .lines) x p left;
+    }
+
+-- the pairs and what follows them, from both cursors; the working spectrum starts as 400 zeros
+unfoldable pub spectralFrom : List ℕ → Setting → Head → Coder → ℕ → Read ℕ Spectral
+spectralFrom s r h c p =
+    andThen (pairsOf s lookTable spectrumTable (pairSetting r (length s) (h .«lsb_mode»)) (h .«last_line» / 2) 0 0 c p
+    (replicate 400 (pos 0)) (replicate 200 0)) (λ x k.
+    andThen (leftOf (length s) (k .side) (k .coder)) (λ left p. value (spectralOf s r h x (k .coder .taken) p left) p))
+
+-- the arithmetic stream: the two filters' TNS data, then the pairs
+unfoldable pub arithmeticFrom : List ℕ → Setting → Side → ℕ → Read ℕ Whole
+arithmeticFrom s r v p =
+    andThen (filterOf s orderTable coefficientTable (weighting (length s)) (v .flags .«tns_0») (startOf s)) (λ f c.
+    andThen (filterOf s orderTable coefficientTable (weighting (length s)) (v .flags .«tns_1») c) (λ g c.
+    andThen (spectralFrom s r (v .head) c p) (λ x p. value (record { side = v; first = f; second = g; spectral = x }) p)))
+
+-- the frame's fields, spectrum and residual bits, or the first cause in reading order
+unfoldable pub frameOf : List ℕ → Setting → Read ℕ Whole
+frameOf s r = andThen (sideOf s r) (λ v p. arithmeticFrom s r v p)
+
+-- accepted; or refused, with document 01's number and the cause
+pub data Judged : Type 0 where
+  accepted : Whole → Judged
+  refused : ℕ → ℕ → Judged
+
+-- 5: "a bit error condition holds in a frame"
+abbrev pub judgedRead : Read ℕ Whole → Judged
+judgedRead (value w p) = accepted w
+judgedRead (cause k) = refused 5 k
+
+-- "frame for the frame reader 20 to 400 bytes"
+abbrev pub sized : ℕ → Bool
+sized n = leb 20 n && leb n 400
+
+-- 2: a lent buffer hasn't NE entries; x and b are the lengths of the two
+abbrev pub judgedSized : Setting → List ℕ → ℕ → ℕ → Judged
+judgedSized r s x b = cond (eqb x (r .lines) && eqb b (r .lines)) (judgedRead (frameOf s r)) (refused 2 0)
+
+-- 1: a setting is out of range
+abbrev pub judgedAt : Rate → List ℕ → ℕ → ℕ → Judged
+judgedAt rate.Unknown s x b = refused 1 0
+judgedAt (rate.Known r) s x b = cond (sized (length s)) (judgedSized r s x b) (refused 1 0)
+
+-- of a rate, a frame, and the lengths of the two lent buffers
+unfoldable pub judgedOf : ℕ → List ℕ → ℕ → ℕ → Judged
+judgedOf khz s x b = judgedAt (rateOf khz) s x b
+
+-- document 01's number, the cause, and what goes with them
+pub record Given : Type 0 where
+  pub number : ℕ
+  pub cause : ℕ
+  pub fields : Fields
+  pub first : List ℕ
+  pub second : List ℕ
+
+-- "zero in every other field"
+abbrev pub noFields : Fields
+noFields = record {
+  side = record {
+    head = record { bandwidth = 0; «last_line» = 0; «lsb_mode» = 0; gain = 0 };
+    flags = record { «tns_0» = 0; «tns_1» = 0; «pitch_present» = 0 };
+    shape = record { low = 0; high = 0; mode = 0; gain = 0; sign = 0; joint = 0 };
+    tail = record { «filter_flag» = 0; «pitch_index» = 0; «noise_level» = 0 };
+  };
+  «tns_order_0» = 0;
+  «tns_order_1» = 0;
+  «residual_bits» = 0;
+  symbols = 0;
+}
+
+abbrev pub refusedWith : ℕ → ℕ → Given
+refusedWith number why = record { number = number; cause = why; fields = noFields; first = unused; second = unused }
+
+abbrev pub fieldsOf : Whole → Fields
+fieldsOf w = record {
+  side = w .side;
+  «tns_order_0» = w .first .order;
+  «tns_order_1» = w .second .order;
+  «residual_bits» = w .spectral .residual .number;
+  symbols = w .spectral .symbols;
+}
+
+unfoldable pub givenOf : Judged → Given
+givenOf (accepted w) =
+    record { number = 0; cause = 0; fields = fieldsOf w; first = w .first .coefficients; second = w .second .coefficients }
+givenOf (refused number why) = refusedWith number why
+
+-- the two lent buffers afterwards: written where the frame was accepted, as lent where not
+abbrev pub spectrumOf : Judged → List ℤ → List ℤ
+spectrumOf (accepted w) lent = w .spectral .lines
+spectrumOf (refused number why) lent = lent
+
+abbrev pub residualAfter : Judged → List ℕ → List ℕ
+residualAfter (accepted w) lent = w .spectral .residual .bits
+residualAfter (refused number why) lent = lent
+
+-- document 01's number, cause and values for each case of the answer
+abbrev pub answered : Answer → List ℕ → List ℕ → Given
+answered (answer.Read f) first second = record { number = 0; cause = 0; fields = f; first = first; second = second }
+answered answer.Setting first second = record { number = 1; cause = 0; fields = noFields; first = first; second = second }
+answered answer.Length first second = record { number = 2; cause = 0; fields = noFields; first = first; second = second }
+answered (answer.BitError k) first second = record { number = 5; cause = k; fields = noFields; first = first; second = second }
+
+abbrev pub told : Reading → Given
+told r = answered (r .answer) (r .«tns_coefficients_0») (r .«tns_coefficients_1»)
+
+-- the answer of the pairs and what follows them, with the lines and the residual bits in the buffers lent; on a cause both are as lent
+abbrev pub spectralGiven : SpectralRead → List ℤ → List ℕ → Read ℕ Spectral
+spectralGiven (spectralRead.Value symbols number p) lines bits = value (record { symbols = symbols; lines = lines; residual = record { number = number; bits = bits } }) p
+spectralGiven (spectralRead.Cause k) lines bits = cause k
+
+abbrev pub KeptOnCause : SpectralRead → List ℤ → List ℤ → List ℕ → List ℕ → Type 0
+KeptOnCause (spectralRead.Value symbols number p) lines lines′ bits bits′ = Unit {0}
+KeptOnCause (spectralRead.Cause k) lines lines′ bits bits′ = (lines′ ≡ lines) × (bits′ ≡ bits)
+
+abbrev pub spectralCause : SpectralRead → ℕ
+spectralCause (spectralRead.Value symbols number p) = 0
+spectralCause (spectralRead.Cause k) = k

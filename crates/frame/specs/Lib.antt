@@ -1,0 +1,10 @@
+pub mod Bits
+pub mod Frame
+pub mod Pairs
+pub mod Read
+pub mod Residual
+pub mod Settings
+pub mod Side
+pub mod Sound
+pub mod Symbol
+pub mod Tns

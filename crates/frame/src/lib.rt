@@ -1,0 +1,239 @@
+// One LC3plus frame of 10 ms read into its fields (clause 5.4.2 of ETSI TS 103 634), over the tables of crate `coder_tables`.
+// Promised for every input: the answer and both lent buffers are those of the clause's own walk in specs/Frame.antt, or document 01's 1, 2 or 5
+// with the first cause in reading order; a refusal leaves both buffers as lent. Values lie in -32,767 to 32,767, symbols are at most 18 + 7 x last line.
+ghost use mathlib.Core.Path.{_≡_};
+ghost use Prim.Native.Nat.{_≤_, _<_, _*_, _/_};
+ghost use lib.ListN.{length};
+ghost use Rattle.frame.specs.Settings.{Known, Sized, lineCount};
+ghost use Rattle.frame.specs.Tns.{unused};
+ghost use Rattle.frame.specs.Frame.{judgedOf, judgedSized, judgedRead, arithmeticFrom, spectralFrom, spectralGiven, spectralCause, KeptOnCause, givenOf, spectrumOf, residualAfter, told};
+ghost use Rattle.frame.specs.Sound.{Sound, Sided, GoodSpectral, Bounded};
+
+mod bits;
+mod coder;
+mod pairs;
+mod residual;
+mod settings;
+mod side;
+mod tns;
+
+use coder::Coder;
+use pairs::PairSetting;
+use pairs::PairsRead;
+use residual::Left;
+use settings::Rate;
+use settings::Setting;
+pub use side::Flags;
+pub use side::Head;
+pub use side::Shape;
+pub use side::Side;
+use side::SideRead;
+pub use side::Tail;
+use tns::FilterRead;
+
+// What an accepted frame says beside its TNS coefficients, spectrum and residual bits.
+pub struct Fields {
+    pub side: Side,
+    pub tns_order_0: u8,
+    pub tns_order_1: u8,
+    pub residual_bits: u16,
+    pub symbols: u16,
+}
+
+// The fields, or document 01's refusal 1, 2 or 5; 5 with its cause.
+pub enum Answer {
+    Read(Fields),
+    Setting,
+    Length,
+    BitError(u8),
+}
+
+// The number of symbols taken, that of the residual bits and the side cursor, or a cause; lines and residual bits stand in the lent buffers.
+enum SpectralRead {
+    Value(u16, u16, usize),
+    Cause(u8),
+}
+
+// The answer, and beside it each filter's coefficients: 0 from its order on, and all 0 on a refusal.
+pub struct Reading {
+    pub answer: Answer,
+    pub tns_coefficients_0: [u8; 8],
+    pub tns_coefficients_1: [u8; 8],
+}
+
+// NE, the number of lines at a rate; 0 where the rate is out of range.
+pub fn line_count(khz: u32) -> usize
+    ensures { λ r. ⌜ r ≡ lineCount khz ⌝ }
+{
+    let known = settings::rate_setting(khz);
+    match known {
+        Rate::Known(r) => r.lines,
+        Rate::Unknown => 0,
+    }
+}
+
+fn refused(answer: Answer) -> Reading
+    ensures { λ r. ⌜ r ≡ record { answer = answer; «tns_coefficients_0» = unused; «tns_coefficients_1» = unused } ⌝ }
+{
+    Reading {
+        answer,
+        tns_coefficients_0: [0; 8],
+        tns_coefficients_1: [0; 8],
+    }
+}
+
+// One frame, by clause 5.4.2.
+pub fn read(khz: u32, frame: &[u8], spectrum: &mut [i32], residual: &mut [u8]) -> Reading
+    ensures { λ r. ⌜ told r ≡ givenOf (judgedOf khz (now (frame .entry)) (length (now (spectrum .entry))) (length (now (residual .entry)))) ⌝ }
+    ensures { λ r. ⌜ now (spectrum .exit) ≡ spectrumOf (judgedOf khz (now (frame .entry)) (length (now (spectrum .entry))) (length (now (residual .entry)))) (now (spectrum .entry)) ⌝ }
+    ensures { λ r. ⌜ now (residual .exit) ≡ residualAfter (judgedOf khz (now (frame .entry)) (length (now (spectrum .entry))) (length (now (residual .entry)))) (now (residual .entry)) ⌝ }
+    ensures { λ r. ⌜ Bounded (r .answer) (now (spectrum .exit)) ⌝ }
+{
+    let known = settings::rate_setting(khz);
+    let Rate::Known(r) = known else {
+        return refused(Answer::Setting);
+    };
+    let n = frame.len();
+    match n {
+        20..=400 => read_sized(r, frame, spectrum, residual),
+        _ => refused(Answer::Setting),
+    }
+}
+
+// The two lent buffers, then the side information.
+fn read_sized(r: Setting, frame: &[u8], spectrum: &mut [i32], residual: &mut [u8]) -> Reading
+    requires { ⌜ Known r × Sized (now frame) ⌝ }
+    ensures { λ o. ⌜ told o ≡ givenOf (judgedSized r (now (frame .entry)) (length (now (spectrum .entry))) (length (now (residual .entry)))) ⌝ }
+    ensures { λ o. ⌜ now (spectrum .exit) ≡ spectrumOf (judgedSized r (now (frame .entry)) (length (now (spectrum .entry))) (length (now (residual .entry)))) (now (spectrum .entry)) ⌝ }
+    ensures { λ o. ⌜ now (residual .exit) ≡ residualAfter (judgedSized r (now (frame .entry)) (length (now (spectrum .entry))) (length (now (residual .entry)))) (now (residual .entry)) ⌝ }
+    ensures { λ o. ⌜ Bounded (o .answer) (now (spectrum .exit)) ⌝ }
+{
+    let lines = r.lines;
+    if spectrum.len() != lines {
+        return refused(Answer::Length);
+    }
+    if residual.len() != lines {
+        return refused(Answer::Length);
+    }
+    let got = side::read_side(frame, r);
+    let SideRead::Value(v, p) = got else {
+        return refused(Answer::BitError(side::side_cause(got)));
+    };
+    read_arithmetic(r, v, p, frame, spectrum, residual)
+}
+
+// The arithmetic stream: the TNS data of both filters, then the pairs.
+fn read_arithmetic(
+    r: Setting,
+    v: Side,
+    p: usize,
+    frame: &[u8],
+    spectrum: &mut [i32],
+    residual: &mut [u8],
+) -> Reading
+    requires { ⌜ Known r × Sized (now frame) × Sided r v p × (length (now spectrum) ≡ r .lines) × (length (now residual) ≡ r .lines) ⌝ }
+    ensures { λ o. ⌜ told o ≡ givenOf (judgedRead (arithmeticFrom (now (frame .entry)) r v p)) ⌝ }
+    ensures { λ o. ⌜ now (spectrum .exit) ≡ spectrumOf (judgedRead (arithmeticFrom (now (frame .entry)) r v p)) (now (spectrum .entry)) ⌝ }
+    ensures { λ o. ⌜ now (residual .exit) ≡ residualAfter (judgedRead (arithmeticFrom (now (frame .entry)) r v p)) (now (residual .entry)) ⌝ }
+    ensures { λ o. ⌜ Bounded (o .answer) (now (spectrum .exit)) ⌝ }
+{
+    let orders = coder_tables::tns_order();
+    let rows = coder_tables::tns_coefficients();
+    let w = settings::tns_weighting(frame.len());
+    let f = v.flags;
+    let mut first = [0u8; 8];
+    let mut second = [0u8; 8];
+    let start = coder::start(frame);
+    let got = tns::filter(frame, &orders, &rows, w, f.tns_0, &mut first, start);
+    let FilterRead::Value(m, c) = got else {
+        return refused(Answer::BitError(tns::filter_cause(got)));
+    };
+    let got2 = tns::filter(frame, &orders, &rows, w, f.tns_1, &mut second, c);
+    let FilterRead::Value(n, d) = got2 else {
+        return refused(Answer::BitError(tns::filter_cause(got2)));
+    };
+    let got3 = read_spectral(r, v.head, d, p, frame, spectrum, residual);
+    let SpectralRead::Value(symbols, count, _) = got3 else {
+        return refused(Answer::BitError(spectral_cause(got3)));
+    };
+    Reading {
+        answer: Answer::Read(Fields {
+            side: v,
+            tns_order_0: m,
+            tns_order_1: n,
+            residual_bits: count,
+            symbols,
+        }),
+        tns_coefficients_0: first,
+        tns_coefficients_1: second,
+    }
+}
+
+// The pairs, the bits left, and after the last check what goes to the lent buffers.
+fn read_spectral(
+    r: Setting,
+    h: Head,
+    c: Coder,
+    p: usize,
+    frame: &[u8],
+    spectrum: &mut [i32],
+    residual: &mut [u8],
+) -> SpectralRead
+    requires { ⌜ Known r × Sized (now frame) × (h .«last_line» ≤ r .lines) × (h .«last_line» ≡ 2 * (h .«last_line» / 2)) × (h .«lsb_mode» < 2) × Sound (now frame) c × (c .taken ≤ 18) × (p ≤ 74) × (length (now spectrum) ≡ r .lines) × (length (now residual) ≡ r .lines) ⌝ }
+    ensures { λ o. ⌜ spectralGiven o (now (spectrum .exit)) (now (residual .exit)) ≡ spectralFrom (now (frame .entry)) r h c p ⌝ }
+    ensures { λ o. ⌜ KeptOnCause o (now (spectrum .entry)) (now (spectrum .exit)) (now (residual .entry)) (now (residual .exit)) ⌝ }
+    ensures { λ o. ⌜ GoodSpectral (h .«last_line») o (now (spectrum .exit)) ⌝ }
+{
+    let look = coder_tables::lookup();
+    let cum = coder_tables::spectrum();
+    let mut lines = [0i32; 400];
+    let mut levels = [0u8; 200];
+    let lsb = bits::wide(h.lsb_mode);
+    let last = h.last_line as usize;
+    let o = PairSetting {
+        lsb,
+        offset: settings::rate_offset(r.index, frame.len()),
+        half: r.lines / 2,
+    };
+    let got = pairs::read_pairs(
+        frame,
+        &look,
+        &cum,
+        o,
+        last / 2,
+        c,
+        p,
+        &mut lines,
+        &mut levels,
+    );
+    let PairsRead::Value(d, q) = got else {
+        return SpectralRead::Cause(pairs::pairs_cause(got));
+    };
+    let got2 = residual::bits_left(frame.len(), q, d);
+    let Left::Value(left) = got2 else {
+        return SpectralRead::Cause(residual::left_cause(got2));
+    };
+    let count = residual::finish(
+        frame,
+        lsb,
+        last,
+        &mut lines,
+        &levels,
+        q,
+        left,
+        spectrum,
+        residual,
+    );
+    let symbols = d.taken as u16;
+    let number = count as u16;
+    SpectralRead::Value(symbols, number, q)
+}
+
+fn spectral_cause(r: SpectralRead) -> u8
+    ensures { λ k. ⌜ k ≡ spectralCause r ⌝ }
+{
+    match r {
+        SpectralRead::Cause(k) => k,
+        SpectralRead::Value(_, _, _) => 0,
+    }
+}
