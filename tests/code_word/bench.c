@@ -7,6 +7,7 @@
 #include <string.h>
 #include <time.h>
 
+#include "../common/said.h"
 #include "hand.h"
 #include "word_calls.h"
 
@@ -77,7 +78,7 @@ static void best_times(pass *p, uint32_t mode, double best[SIDES])
             best[side] = t < best[side] ? t : best[side];
         }
         if (memcmp(&left[0], &left[2], sizeof left[0]) != 0 || memcmp(&left[1], &left[2], sizeof left[1]) != 0) {
-            printf("the archive and the C do not leave the same\n");
+            said(printf("the archive and the C do not leave the same\n"));
             exit(1);
         }
     }
@@ -117,19 +118,19 @@ static void fill(uint32_t mode, unsigned changes)
 static void correcting(const char *title, pass *p)
 {
     double best[SIDES], worst[2] = {0, 0};
-    printf("\n%s\n                    general C  closed C   archive   archive/general  archive/closed\n", title);
+    said(printf("\n%s\n                    general C  closed C   archive   archive/general  archive/closed\n", title));
     for (uint32_t mode = 2; mode <= 4; mode++)
         for (unsigned changes = 0; changes <= mode; changes++) {
             fill(mode, changes);
             best_times(p, mode, best);
-            printf("mode %u, %u changed%s %10.1f%10.1f%10.1f%18.2f%16.2f\n", (unsigned)mode, changes,
-                   changes == mode ? "*" : " ", best[0], best[1], best[2], best[2] / best[0], best[2] / best[1]);
-            fflush(stdout);
+            said(printf("mode %u, %u changed%s %10.1f%10.1f%10.1f%18.2f%16.2f\n", (unsigned)mode, changes,
+                        changes == mode ? "*" : " ", best[0], best[1], best[2], best[2] / best[0], best[2] / best[1]));
+            all_said();
             for (unsigned side = 0; side < 2; side++)
                 if (best[2] / best[side] > worst[side])
                     worst[side] = best[2] / best[side];
         }
-    printf("greatest ratio                                  %18.2f%16.2f\n", worst[0], worst[1]);
+    said(printf("greatest ratio                                  %18.2f%16.2f\n", worst[0], worst[1]));
 }
 
 int main(void)
@@ -137,17 +138,18 @@ int main(void)
     double best[SIDES];
     hand_prepare();
     srand(634);
-    printf("ns a word of %d semi-octets, best of %d passes over %d words. Every pass works on a fresh copy of the words; the\n"
-           "copying is in none of the times. C is gcc -O2: general C is one code for every distance, closed C is written out\n"
-           "for up to three changes.\n\nword_make                   C   archive   archive/C\n", LENGTH, RUNS, WORDS);
+    said(printf("ns a word of %d semi-octets, best of %d passes over %d words. Every pass works on a fresh copy of the words; the\n"
+                "copying is in none of the times. C is gcc -O2: general C is one code for every distance, closed C is written\n"
+                "out for up to three changes.\n\nword_make                   C   archive   archive/C\n", LENGTH, RUNS, WORDS));
     for (uint32_t mode = 2; mode <= 4; mode++) {
         fill(mode, 0);
         best_times(made, mode, best);
-        printf("mode %u              %9.1f%10.1f%12.2f\n", (unsigned)mode, best[1], best[2], best[2] / best[1]);
+        said(printf("mode %u              %9.1f%10.1f%12.2f\n", (unsigned)mode, best[1], best[2], best[2] / best[1]));
     }
     correcting("word_correct_each, 54 words a call (a slot of 400 bytes)", slots_of_400);
     correcting("word_correct_each, 6 words a call (a slot of 40 bytes)", slots_of_40);
     correcting("word_correct, one word a call", alone);
-    printf("\n* beyond repair: the word is refused and left as it was lent.\n");
+    said(printf("\n* beyond repair: the word is refused and left as it was lent.\n"));
+    all_said();
     return 0;
 }

@@ -11,6 +11,7 @@
 #include <string.h>
 
 #include "../common/cases.h"
+#include "../common/said.h"
 #include "search.h"
 #include "word_calls.h"
 
@@ -21,10 +22,10 @@ static const uint32_t no_modes[] = {0, 1, 5, 6, 16, 255, 256, 258, 259, 260, 655
 
 static void show(const char *what, const uint8_t *bytes, size_t length)
 {
-    printf("    %s", what);
+    said(printf("    %s", what));
     for (size_t k = 0; k < length && k < 64; k++)
-        printf(" %u", bytes[k]);
-    printf("\n");
+        said(printf(" %u", bytes[k]));
+    said(printf("\n"));
 }
 
 /* Counts a case, and shows the first wrong ones of a group. */
@@ -33,7 +34,7 @@ static void judge(int right, const char *call, uint32_t mode, const uint8_t *len
 {
     if (!case_shown(right))
         return;
-    printf("  WRONG: %s, mode %" PRIu32 ", length %zu\n", call, mode, length);
+    said(printf("  WRONG: %s, mode %" PRIu32 ", length %zu\n", call, mode, length));
     show("lent  ", lent, length);
     show("left  ", left, length);
     show("wanted", wanted, length);
@@ -381,7 +382,7 @@ int main(int argc, char **argv)
     cases_start(argc > 1 ? argv[1] : NULL);
     uint32_t in_mode_4 = argc > 2 ? (uint32_t)strtoul(argv[2], NULL, 0) : 100000;
     if (!search_prepare()) {
-        printf("WRONG: two patterns of at most m - 1 changes have one syndrome, or memory ended\n");
+        said(printf("WRONG: two patterns of at most m - 1 changes have one syndrome, or memory ended\n"));
         return 2;
     }
     settings();

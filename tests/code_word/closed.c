@@ -62,7 +62,7 @@ static inline uint8_t value_at(const uint8_t *s, const uint8_t *places, unsigned
     return over(s[2] ^ times(y ^ z, s[1]) ^ times(times(y, z), s[0]), times(x, times(x ^ y, x ^ z)));
 }
 
-static uint8_t change(uint8_t *word, size_t length, uint32_t mode, uint32_t syndrome)
+uint8_t closed_change(uint8_t *word, size_t length, uint32_t mode, uint32_t syndrome)
 {
     uint8_t s[6], l[3], places[3], values[3];
     for (unsigned j = 0; j < 6; j++)
@@ -83,10 +83,10 @@ static uint8_t change(uint8_t *word, size_t length, uint32_t mode, uint32_t synd
 
 word_answer closed_correct(uint8_t *word, size_t length, uint32_t mode)
 {
-    return correct_by(change, word, length, mode);
+    return correct_by(closed_change, word, length, mode);
 }
 
 uint8_t closed_correct_each(uint8_t *words, size_t words_len, uint32_t mode, uint8_t *counts, size_t counts_len)
 {
-    return correct_each_by(change, words, words_len, mode, counts, counts_len);
+    return correct_each_by(closed_change, words, words_len, mode, counts, counts_len);
 }

@@ -15,4 +15,7 @@ uint8_t general_correct_each(uint8_t *words, size_t words_len, uint32_t mode, ui
 word_answer closed_correct(uint8_t *word, size_t length, uint32_t mode);
 uint8_t closed_correct_each(uint8_t *words, size_t words_len, uint32_t mode, uint8_t *counts, size_t counts_len);
 
+/* What both calls in closed form rest on (changes_made in correct_calls.h), for who has the syndrome already. */
+uint8_t closed_change(uint8_t *word, size_t length, uint32_t mode, uint32_t syndrome);
+
 #endif

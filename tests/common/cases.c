@@ -6,6 +6,8 @@
 #include <stdlib.h>
 #include <string.h>
 
+#include "said.h"
+
 enum { SHOWN = 5 };
 
 static uint64_t state;
@@ -15,7 +17,7 @@ unsigned long wrong;
 void cases_start(const char *seed)
 {
     state = seed != NULL ? strtoull(seed, NULL, 0) : 634;
-    printf("seed %" PRIu64 "\n", state);
+    said(printf("seed %" PRIu64 "\n", state));
 }
 
 uint32_t next(void)
@@ -31,6 +33,12 @@ uint32_t below(uint32_t n)
     return next() % n;
 }
 
+void random_bytes(uint8_t *bytes, size_t length)
+{
+    for (size_t k = 0; k < length; k++)
+        bytes[k] = (uint8_t)next();
+}
+
 int case_shown(int right)
 {
     cases++;
@@ -39,8 +47,8 @@ int case_shown(int right)
 
 void group_ends(const char *name)
 {
-    printf("%-82s %9lu cases, %lu wrong\n", name, cases, wrong);
-    fflush(stdout);
+    said(printf("%-82s %9lu cases, %lu wrong\n", name, cases, wrong));
+    all_said();
     if (cases == 0 || wrong > 0)
         exit(1);
     all_cases += cases;
@@ -49,7 +57,8 @@ void group_ends(const char *name)
 
 void cases_end(void)
 {
-    printf("%lu cases, 0 wrong\n", all_cases);
+    said(printf("%lu cases, 0 wrong\n", all_cases));
+    all_said();
 }
 
 uint8_t *guarded(buffer *b, const uint8_t *from, size_t length)

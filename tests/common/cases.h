@@ -14,6 +14,7 @@ void cases_start(const char *seed);
 /* Numbers that look random, the same for one seed. */
 uint32_t next(void);
 uint32_t below(uint32_t n);
+void random_bytes(uint8_t *bytes, size_t length);
 
 /* The wrong cases of the group, to which a test may add. */
 extern unsigned long wrong;

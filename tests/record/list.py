@@ -1,5 +1,6 @@
 #!/usr/bin/env python3
-"""Runs the program `list` on records made here from document 01 and compares what it writes, on both outputs."""
+"""Runs the program `list` on records made here from document 01 and compares what it writes, on both outputs.
+usage: list.py PROGRAM [SEED]"""
 import os, random, signal, subprocess, sys, time
 
 PROGRAM = sys.argv[1]
@@ -45,7 +46,7 @@ def slowly(data, piece, pause):
         return child.stdout.read(), child.stderr.read()
 
 
-rng = random.Random(5)
+rng = random.Random(int(sys.argv[2], 0) if len(sys.argv) > 2 else 634)
 
 
 def some(n, low=20, high=400):

@@ -1,5 +1,6 @@
-/* Runs the compiled crate slot (slot_calls.h) on the cases of protect.txt and unprotect.txt and against reference.c:
-   answers, slots, frames, and the bytes in and around every buffer that is lent.
+/* Runs the compiled slots (include/silberlaus.h) and those of quick.c, with which their speed is compared, on the cases of
+   protect.txt and unprotect.txt and against reference.c: answers, slots, frames, and the bytes in and around every buffer
+   that is lent. A case counts once for each of the two.
 
      check [SEED [FOLDER]]    FOLDER: where the two lists of cases stand (tests/slot)
 
@@ -12,24 +13,30 @@
 
 #include "../code_word/search.h"
 #include "../common/cases.h"
+#include "../common/said.h"
+#include "damage.h"
+#include "quick.h"
 #include "reference.h"
-#include "slot_calls.h"
 
-enum { ROOM = 1024, TURNS = 40 };
+enum { ROOM = 1024, TURNS = 40, SIDES = 2 };
 
-static void random_bytes(uint8_t *bytes, size_t length)
-{
-    for (size_t k = 0; k < length; k++)
-        bytes[k] = (uint8_t)next();
-}
+/* The quick slot, and the archive's last, so that its answer is the one a case goes on with. */
+static const struct {
+    const char *protects, *unprotects;
+    uint8_t (*protect)(size_t, uint32_t, uint32_t, const uint8_t *, size_t, uint8_t *, size_t);
+    slot_answer (*unprotect)(size_t, uint32_t, const uint8_t *, size_t, uint8_t *, size_t);
+} sides[SIDES] = {
+    {"quick.c's protect", "quick.c's unprotect", quick_protect, quick_unprotect},
+    {"protect", "unprotect", silberlaus_protect, silberlaus_unprotect},
+};
 
 /* Counts a case, and shows the first wrong ones of a group. */
 static void judge(int right, const char *call, size_t size, uint32_t mode, slot_answer want, slot_answer got)
 {
     if (!case_shown(right))
         return;
-    printf("  WRONG: %s, size %zu, mode %" PRIu32 ": number %u, request %u, count %u; wanted %u, %u, %u\n", call, size, mode,
-           got.number, got.request, got.semi_octets, want.number, want.request, want.semi_octets);
+    said(printf("  WRONG: %s, size %zu, mode %" PRIu32 ": number %u, request %u, count %u; wanted %u, %u, %u\n", call, size,
+                mode, got.number, got.request, got.semi_octets, want.number, want.request, want.semi_octets));
 }
 
 /* ---- one call with guarded buffers */
@@ -53,27 +60,33 @@ static const uint8_t *lend(buffer *b, part p)
 static void protect_case(size_t size, uint32_t mode, uint32_t request, part frame, part sent, uint8_t number,
                          const uint8_t *slot)
 {
-    buffer in, out;
-    const uint8_t *from = lend(&in, frame);
-    uint8_t *to = (uint8_t *)lend(&out, sent);
-    uint8_t got = slot_calls_protect(size, mode, request, from, frame.length, to, sent.length);
-    int right = got == number && holds(&in, frame.bytes, frame.length)
-                && holds(&out, number == 0 ? slot : sent.bytes, sent.length);
-    judge(right, "protect", size, mode, (slot_answer){number, 0, 0}, (slot_answer){got, 0, 0});
+    for (unsigned side = 0; side < SIDES; side++) {
+        buffer in, out;
+        const uint8_t *from = lend(&in, frame);
+        uint8_t *to = (uint8_t *)lend(&out, sent);
+        uint8_t got = sides[side].protect(size, mode, request, from, frame.length, to, sent.length);
+        int right = got == number && holds(&in, frame.bytes, frame.length)
+                    && holds(&out, number == 0 ? slot : sent.bytes, sent.length);
+        judge(right, sides[side].protects, size, mode, (slot_answer){number, 0, 0}, (slot_answer){got, 0, 0});
+    }
 }
 
-/* Unprotecting: the answer wanted and, where its number is 0, the frame wanted. Else the lent frame has to stay. */
+/* Unprotecting: the answer wanted and, where its number is 0, the frame wanted. Else the lent frame has to stay. The
+   archive's answer is returned. */
 static slot_answer unprotect_case(size_t size, uint32_t mode, part received, part frame, slot_answer want,
                                   const uint8_t *wanted_frame)
 {
-    buffer in, out;
-    const uint8_t *from = lend(&in, received);
-    uint8_t *to = (uint8_t *)lend(&out, frame);
-    slot_answer got = slot_calls_unprotect(size, mode, from, received.length, to, frame.length);
-    int right = got.number == want.number && got.request == want.request && got.semi_octets == want.semi_octets
-                && holds(&in, received.bytes, received.length)
-                && holds(&out, want.number == 0 ? wanted_frame : frame.bytes, frame.length);
-    judge(right, "unprotect", size, mode, want, got);
+    slot_answer got = {0};
+    for (unsigned side = 0; side < SIDES; side++) {
+        buffer in, out;
+        const uint8_t *from = lend(&in, received);
+        uint8_t *to = (uint8_t *)lend(&out, frame);
+        got = sides[side].unprotect(size, mode, from, received.length, to, frame.length);
+        int right = got.number == want.number && got.request == want.request && got.semi_octets == want.semi_octets
+                    && holds(&in, received.bytes, received.length)
+                    && holds(&out, want.number == 0 ? wanted_frame : frame.bytes, frame.length);
+        judge(right, sides[side].unprotects, size, mode, want, got);
+    }
     return got;
 }
 
@@ -128,7 +141,7 @@ static size_t from_hex(const char *text, uint8_t *bytes)
 
 static void malformed(const char *name)
 {
-    printf("WRONG: a line of %s is not as README.md says\n", name);
+    said(printf("WRONG: a line of %s is not as README.md says\n", name));
     exit(2);
 }
 
@@ -195,17 +208,17 @@ static void frame_sizes(void)
                                       {400, 343, 287, 233}};
     for (size_t i = 0; i < COUNT(table); i++)
         for (uint32_t mode = 2; mode <= 4; mode++)
-            judge(slot_calls_frame_size(table[i][0], mode) == table[i][mode - 1], "frame_size", table[i][0], mode,
+            judge(silberlaus_frame_size(table[i][0], mode) == table[i][mode - 1], "frame_size", table[i][0], mode,
                   (slot_answer){0}, (slot_answer){0});
     for (size_t size = 40; size <= 400; size++)
         for (uint32_t mode = 2; mode <= 4; mode++)
-            judge(slot_calls_frame_size(size, mode) == reference_frame_size(size, mode), "frame_size", size, mode,
+            judge(silberlaus_frame_size(size, mode) == reference_frame_size(size, mode), "frame_size", size, mode,
                   (slot_answer){0}, (slot_answer){0});
     group_ends("frame size: document 01's table, and every size and mode");
     for (size_t s = 0; s < COUNT(sizes); s++)
         for (size_t m = 0; m < COUNT(modes); m++)
             if (!sizes_fit(sizes[s], modes[m]))
-                judge(slot_calls_frame_size(sizes[s], modes[m]) == 0, "frame_size", sizes[s], modes[m], (slot_answer){0},
+                judge(silberlaus_frame_size(sizes[s], modes[m]) == 0, "frame_size", sizes[s], modes[m], (slot_answer){0},
                       (slot_answer){0});
     group_ends("frame size: 0 where the size or the mode is out of range");
 }
@@ -275,28 +288,6 @@ static sending random_sending(size_t size, uint32_t mode)
     return s;
 }
 
-/* Changes semi-octet k of word i by that value. */
-static void change(size_t size, size_t i, size_t k, uint8_t value, uint8_t *slot)
-{
-    size_t place = reference_place(size, i, k);
-    slot[place / 2] ^= (uint8_t)(value << 4 * (place % 2));
-}
-
-/* Changes that many different semi-octets of word i. */
-static void damage_word(size_t size, size_t i, unsigned changes, uint8_t *slot)
-{
-    size_t length = reference_length(size, i);
-    uint8_t changed[LONGEST] = {0};
-    while (changes > 0) {
-        size_t k = below((uint32_t)length);
-        if (changed[k])
-            continue;
-        changed[k] = 1;
-        change(size, i, k, (uint8_t)(1 + below(15)), slot);
-        changes--;
-    }
-}
-
 /* Changes at most `most` semi-octets in each word: in all words as many, in all words some, or in few words. Their
    number. */
 static unsigned damage(size_t size, unsigned most, uint8_t *slot)
@@ -326,7 +317,7 @@ static void mislead_word(size_t size, uint32_t mode, size_t i, uint8_t *slot)
         word[k] = 0;
     }
     for (size_t k = 0; k < length; k++)
-        change(size, i, k, word[k], slot);
+        change_place(size, i, k, word[k], slot);
 }
 
 /* ---- every kind of case at one size and mode */
@@ -461,9 +452,10 @@ int main(int argc, char **argv)
     cases_start(argc > 1 ? argv[1] : NULL);
     folder = argc > 2 ? argv[2] : folder;
     if (!search_prepare()) {
-        printf("WRONG: two patterns of at most m - 1 changes have one syndrome, or memory ended\n");
+        said(printf("WRONG: two patterns of at most m - 1 changes have one syndrome, or memory ended\n"));
         return 2;
     }
+    quick_prepare();
     protect_list();
     unprotect_list();
     frame_sizes();

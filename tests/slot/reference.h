@@ -1,10 +1,12 @@
 /* What is right: protecting and unprotecting a slot, written from document 01 and Annex A.1 alone, step by step, plain
-   and slow. The three calls have the meaning of slot_calls.h. Call search_prepare (tests/code_word/search.h) once,
-   before any other. */
+   and slow. The three calls have the meaning of include/silberlaus.h. Call search_prepare
+   (tests/code_word/search.h) once, before any other. */
 #ifndef REFERENCE_H
 #define REFERENCE_H
 
-#include "slot_calls.h"
+#include "silberlaus.h"
+
+typedef silberlaus_unprotected slot_answer;
 
 enum { MOST_BYTES = 400, MOST_SEMI_OCTETS = 2 * MOST_BYTES, MOST_WORDS = 54 };
 

@@ -8,14 +8,14 @@
 #define FAULT 0
 #endif
 
-size_t slot_calls_frame_size(size_t size, uint32_t mode)
+size_t silberlaus_frame_size(size_t size, uint32_t mode)
 {
     if (FAULT == 1) /* a mode narrowed on the way in */
         mode = (uint8_t)mode;
     return reference_frame_size(size, mode);
 }
 
-uint8_t slot_calls_protect(size_t size, uint32_t mode, uint32_t request, const uint8_t *frame, size_t frame_len,
+uint8_t silberlaus_protect(size_t size, uint32_t mode, uint32_t request, const uint8_t *frame, size_t frame_len,
                            uint8_t *sent, size_t sent_len)
 {
     if (FAULT == 2) /* a request narrowed on the way in */
@@ -34,7 +34,7 @@ uint8_t slot_calls_protect(size_t size, uint32_t mode, uint32_t request, const u
     return number;
 }
 
-slot_answer slot_calls_unprotect(size_t size, uint32_t mode, const uint8_t *received, size_t received_len,
+slot_answer silberlaus_unprotect(size_t size, uint32_t mode, const uint8_t *received, size_t received_len,
                                  uint8_t *frame, size_t frame_len)
 {
     slot_answer a = reference_unprotect(size, mode, received, received_len, frame, frame_len);

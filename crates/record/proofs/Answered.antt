@@ -11,7 +11,7 @@ use lib.ListN.{length, getD, take, drop, length-append, length-take, List·getD-
 use lib.Seq.{take-at, drop-at, take-take, length-take-le, getD-take}
 use borrow.Author.Tests.{leb-true, le-leb, lt-leb, lt-ltb, le-ltb, ltb-true, ltb-false, eqb-true, eq-eqb, ne-eqb}
 use Rattle.record.specs.declared.walk.Walked.the-variants as walked
-use Rattle.record.specs.Layout.{RecordEntry, big, trailer, entryBytes, entriesBytes, recordBytes, inRange, IsRecord, most}
+use Rattle.record.specs.Layout.{RecordEntry, big, trailer, entryBytes, entriesBytes, recordBytes, inRange, AllInRange, IsRecord, most}
 use Rattle.record.specs.Reading.{readRecord}
 use Rattle.record.specs.Answers.{located, accepted, refused, EntryAnswer, nowhere, newNumber, newBuffer, entriesOf, entriesAnswer, locate, entryOf, entryAnswer, frameAt, frameOf, framePart, mayAddTo, mayAdd, hasRoom, addOf, addAnswer, storedOf, addBuffer}
 use Rattle.record.specs.Steps.{walkOf, put, tailOf}
@@ -138,7 +138,7 @@ pub frame-found : (s : List ℕ) (place : ℕ) (v : Located) → Bytes s → rec
 unfolding entryAnswer framePart
 frame-found s place v b r = frame-of s place v b (readRecord s) refl r
 
-frame-past : (es : List RecordEntry) (place : ℕ) → length es ≤ place → [] ≡ frameAt es place
+pub frame-past : (es : List RecordEntry) (place : ℕ) → length es ≤ place → [] ≡ frameAt es place
 frame-past [] place h = refl
 frame-past (e ∷ es) zero h = absurd (omega arith)
 frame-past (e ∷ es) (suc place) h = frame-past es place (omega arith)
@@ -155,6 +155,32 @@ frame-not-of (some es) place n r = past-frame es place n (ltb place (length es))
 pub frame-none : (s : List ℕ) (place n : ℕ) → record { number = suc n; entry = nowhere } ≡ entryAnswer s place → [] ≡ framePart s place
 unfolding entryAnswer framePart
 frame-none s = frame-not-of (readRecord s)
+
+-- ---- an entry's frame for the frame reader
+
+frame-ranged : (es : List RecordEntry) (place : ℕ) → AllInRange es → place < length es → (20 ≤ length (frameAt es place)) × (length (frameAt es place) ≤ 400)
+frame-ranged [] place r h = absurd (omega arith)
+frame-ranged (e ∷ es) zero r h = let k = in-range-of (e .request) (e .count) (length (e .frame)) (r .0) in (k .2, k .3)
+frame-ranged (e ∷ es) (suc place) r h = frame-ranged es place (r .1) (omega arith)
+
+-- the frame of an entry that is there has 20 to 400 bytes
+pub frame-sized : (s : List ℕ) (es : List RecordEntry) (place : ℕ) → Bytes s → readRecord s ≡ some es → place < length es
+    → (20 ≤ length (frameAt es place)) × (length (frameAt es place) ≤ 400)
+frame-sized s es place b q h = frame-ranged es place (is-read s es b q .ranges) h
+
+-- where there is no frame, no entry is there: `entry` refuses
+missing-of : (s : List ℕ) (place : ℕ) → Bytes s → (o : Option (List RecordEntry)) → readRecord s ≡ o
+    → length (frameOf o place) ≡ 0 → 1 ≤ entryOf o place .number
+missing-of s place b none q z = omega arith
+missing-of s place b (some es) q z = go (ltb place (length es)) refl
+  where
+    go : (x : Bool) → ltb place (length es) ≡ x → 1 ≤ cond x 0 1
+    go true t = let f = frame-sized s es place b q (ltb-true place (length es) t) in absurd (omega (arith, f .0, z))
+    go false t = omega arith
+
+pub frame-missing : (s : List ℕ) (place : ℕ) → Bytes s → length (framePart s place) ≡ 0 → 1 ≤ entryAnswer s place .number
+unfolding entryAnswer framePart
+frame-missing s place b z = missing-of s place b (readRecord s) refl z
 
 -- ---- adding
 

@@ -1,0 +1,47 @@
+-- Document 01's "Small sums to prove together": one statement over the definitions of every layer. proofs/Sums.antt proves it. Assumes nothing.
+use mathlib.Core.Path.{_≡_}
+use mathlib.Core.List.{List, [], _∷_}
+use Prim.Native.Nat.{ℕ, zero, suc, _+_, _*_, _%_, _^_, _≤_}
+use Rattle.gf16.specs.Field.{product}
+use Rattle.code_word.specs.Polynomial.{generator}
+use Rattle.slot.specs.Sizes.{words, wordLength}
+use Rattle.frame.specs.Read.{value, cause}
+use Rattle.frame.specs.Settings.{rateOf}
+use Rattle.frame.specs.Bits.{readBits}
+use Rattle.frame.specs.Side.{headOf}
+use Rattle.frame.specs.Pairs.{contextOf}
+use Rattle.frame.specs.declared.settings.Setting.{Setting}
+use Rattle.frame.specs.declared.settings.Rate.the-variants as rate
+use Rattle.record.specs.Layout.{recordBytes}
+
+-- a value whose escapes all had a 1, n of them
+abbrev pub allSet : ℕ → ℕ
+allSet zero = 0
+allSet (suc n) = allSet n + 1 * 2 ^ n
+
+pub record SmallSums (at24 at48 : Setting) : Type 0 where
+  -- "2 x 9 = 1 and 6 x 11 = 15 in the field"
+  pub products : (product 2 9 ≡ 1) × (product 6 11 ≡ 15)
+  -- "the three polynomials"
+  pub polynomials : (generator 3 ≡ 8 ∷ 6 ∷ 1 ∷ []) × (generator 5 ≡ 7 ∷ 8 ∷ 12 ∷ 13 ∷ 1 ∷ []) × (generator 7 ≡ 12 ∷ 10 ∷ 12 ∷ 3 ∷ 9 ∷ 7 ∷ 1 ∷ [])
+  -- "word counts of slots 40, 80 and 400"
+  pub counts : (words 40 ≡ 6) × (words 80 ≡ 11) × (words 400 ≡ 54)
+  -- "slot 40 has lengths 14, 14, 13, 13, 13, 13"
+  pub lengths :
+      (wordLength 40 0 ≡ 14) × (wordLength 40 1 ≡ 14) × (wordLength 40 2 ≡ 13) × (wordLength 40 3 ≡ 13) × (wordLength 40 4 ≡ 13) × (wordLength 40 5 ≡ 13)
+  -- "context 255 with pair (3, 3) at level 1 gives 253"
+  pub context : contextOf 255 3 3 1 ≡ 253
+  -- "level 13 with all bits set gives 32,767": thirteen escapes, then symbol 15
+  pub highest : allSet 13 + 15 % 4 * 2 ^ 13 ≡ 32767
+  -- the settings of 24 and 48 kHz
+  pub rates : (rateOf 24 ≡ rate.Known at24) × (rateOf 48 ≡ rate.Known at48)
+  -- "at 48 kHz field 199 gives line 400"
+  pub line-400 : (s : List ℕ) (b m g : ℕ) → b ≤ 4
+      → readBits s 0 3 ≡ value b 3 → readBits s 3 8 ≡ value 199 11 → readBits s 11 1 ≡ value m 12 → readBits s 12 8 ≡ value g 20
+      → headOf s at48 ≡ value (record { bandwidth = b; «last_line» = 400; «lsb_mode» = m; gain = g }) 20
+  -- "and 200 is cause 2"
+  pub past-400 : (s : List ℕ) (b : ℕ) → b ≤ 4 → readBits s 0 3 ≡ value b 3 → readBits s 3 8 ≡ value 200 11 → headOf s at48 ≡ cause 2
+  -- "at 24 kHz bandwidth 3 is cause 1"
+  pub bandwidth : (s : List ℕ) → readBits s 0 2 ≡ value 3 2 → headOf s at24 ≡ cause 1
+  -- "an empty record is four zero bytes"
+  pub empty : recordBytes [] ≡ 0 ∷ 0 ∷ 0 ∷ 0 ∷ []

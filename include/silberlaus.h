@@ -1,0 +1,187 @@
+/* Silberlaus: the path of LC3plus speech from headset to base and into the night's record (ETSI TS 103 634, Annex A.1 and
+   clause 5.4). A frame is protected in a slot; a received slot is corrected and gives its frame back; a frame is read
+   into its fields; frames are kept in a session record. What comes back is right, or it is refused by number.
+
+   Memory.  All of it is the caller's. No heap, no global state, no lock: calls may run at the same time on different
+   buffers. Each pointer is good for the length beside it, and may be NULL only where that length is 0. The buffers of one
+   call do not overlap. `spectrum` is aligned for int32_t; bytes have no alignment. Lengths count elements: bytes, or
+   entries of `spectrum`.
+
+   Answers. Any bytes and any settings may be handed in; settings are 32 bits wide so that 258 is refused and not narrowed
+   to 2. A refusal gives its number, zero in every other field (SILBERLAUS_BIT_ERROR its cause too), and leaves every lent
+   byte as it was. What is checked first is named first in each list of refusals below.
+
+   Linking. target/staticlib/libsilberlaus.a (`rt staticlib silberlaus`), for x86-64 and its System V calling convention.
+   It wants `memcpy` and `memset` of the C library or of your own, and nothing else. It keeps the red zone: a handler that
+   runs on the stack of an interrupted call leaves the 128 bytes below its stack pointer alone.
+
+   Stack.   See SILBERLAUS_STACK_* below. No call recurses. */
+#ifndef SILBERLAUS_H
+#define SILBERLAUS_H
+
+#include <stddef.h>
+#include <stdint.h>
+
+#ifdef __cplusplus
+extern "C" {
+#endif
+
+/* ---- numbers: the field `number`, or the whole answer where that is a uint8_t */
+
+enum {
+  SILBERLAUS_ACCEPTED = 0,
+  SILBERLAUS_BAD_SETTING = 1,   /* a setting out of range; for the record also its used length, its entry, a place */
+  SILBERLAUS_BAD_LENGTH = 2,    /* a lent buffer has not the exact length named */
+  SILBERLAUS_BEYOND_REPAIR = 3, /* some code word has no valid word within mode - 1 semi-octets */
+  SILBERLAUS_FOREIGN = 4,       /* every word was corrected, and no frame and request make that slot */
+  SILBERLAUS_BIT_ERROR = 5,     /* a bit error condition holds in the frame: see the causes */
+  SILBERLAUS_NO_ROOM = 6,       /* the record, or the buffer that it is in, has no room */
+  SILBERLAUS_NOT_A_RECORD = 7   /* the bytes are no record */
+};
+
+/* ---- causes: the field `cause` beside SILBERLAUS_BIT_ERROR; the first in reading order is given */
+
+enum {
+  SILBERLAUS_CAUSE_BANDWIDTH = 1,   /* the bandwidth is above the rate's */
+  SILBERLAUS_CAUSE_LAST_LINE = 2,   /* the last line is above the rate's number of lines */
+  SILBERLAUS_CAUSE_JOINT_INDEX = 3, /* the shape's joint index is too large */
+  SILBERLAUS_CAUSE_ARITHMETIC = 4,  /* the arithmetic value is at or above the scaled range */
+  SILBERLAUS_CAUSE_ESCAPES = 5,     /* fourteen escapes in a pair */
+  SILBERLAUS_CAUSE_CROSSED = 6,     /* the two streams cross, or a byte outside the frame is wanted */
+  SILBERLAUS_CAUSE_NO_BITS = 7      /* fewer than no bits are left for the residual */
+};
+
+/* ---- settings and sizes */
+
+#define SILBERLAUS_SLOT_MIN 40       /* bytes of a slot */
+#define SILBERLAUS_SLOT_MAX 400
+#define SILBERLAUS_MODE_MIN 2        /* mode m repairs m - 1 semi-octets in each word */
+#define SILBERLAUS_MODE_MAX 4
+#define SILBERLAUS_REQUEST_MAX 3     /* a request (EPMR) is 0 to 3 */
+#define SILBERLAUS_SLOT_FRAME_MAX 343 /* bytes of the frame in a slot: at least 20, at most this (slot 400, mode 2) */
+#define SILBERLAUS_WORDS_MAX 54      /* code words of a slot */
+#define SILBERLAUS_SEMI_OCTETS_MAX 162 /* changed semi-octets that can be repaired in a slot: 3 in each of 54 words */
+#define SILBERLAUS_FRAME_MIN 20      /* bytes of a frame to read or to keep */
+#define SILBERLAUS_FRAME_MAX 400
+#define SILBERLAUS_LINES_MAX 400     /* lines of a frame at 48 kHz; see silberlaus_line_count */
+#define SILBERLAUS_SYMBOLS_MAX 2818  /* arithmetic symbols of a frame: 18 + 7 x 400 */
+#define SILBERLAUS_RECORD_MIN 4      /* bytes of a record with no entries */
+#define SILBERLAUS_RECORD_MAX 65536
+#define SILBERLAUS_ENTRY_OVERHEAD 4  /* bytes of an entry beside its frame */
+#define SILBERLAUS_ENTRIES_MAX 2730  /* entries of 20 bytes in a record of 65,536 */
+
+/* Bytes of stack that a call needs at most, its return address and all that it calls included, but not a `memcpy` and a
+   `memset` of your own. Measured on the archive (tests/face), and rounded up. */
+#define SILBERLAUS_STACK_SLOT 4608   /* silberlaus_frame_size, protect, unprotect */
+#define SILBERLAUS_STACK_FRAME 16384 /* silberlaus_line_count, read_frame, read_entry */
+#define SILBERLAUS_STACK_RECORD 512  /* silberlaus_record_* */
+
+/* ---- answers */
+
+typedef struct {
+  uint8_t number;
+  uint8_t request;      /* EPMR, as sent */
+  uint16_t semi_octets; /* in how many the received slot differs from the one sent; 0 is a clean slot */
+} silberlaus_unprotected;
+
+typedef struct {
+  uint8_t number, cause;
+  uint8_t bandwidth, lsb_mode, gain, tns_flag_0, tns_flag_1, pitch_present;
+  uint8_t shape_low, shape_high; /* the first and the second five bits sent */
+  uint8_t shape_mode, shape_gain, shape_sign, filter_flag, noise_level;
+  uint8_t tns_order_0, tns_order_1, tns_coefficients_0[8], tns_coefficients_1[8]; /* 0 from the order on */
+  uint16_t last_line;     /* lines of the spectrum that were sent; from this one on all are 0 */
+  uint16_t pitch_index;   /* 0 without pitch */
+  uint16_t residual_bits; /* entries of the residual buffer that were sent */
+  uint16_t symbols;       /* arithmetic symbols taken */
+  uint32_t shape_joint;
+} silberlaus_frame;
+
+typedef struct {
+  uint8_t number;
+  uint32_t used; /* the record's new length; on a refusal 0: keep the old one */
+} silberlaus_added;
+
+typedef struct {
+  uint8_t number;
+  uint32_t entries;
+} silberlaus_entries;
+
+typedef struct {
+  uint8_t number;
+  uint8_t request, count;
+  uint16_t length; /* bytes of the entry's frame, which stands in the record from `start` on */
+  uint32_t start;
+} silberlaus_entry;
+
+/* ---- slots: 40 to 400 bytes; mode 2, 3 or 4; request 0 to 3 */
+
+/* The bytes of a frame in such a slot; 0 where the slot's size or the mode is out of range. */
+size_t silberlaus_frame_size(size_t slot_size, uint32_t mode);
+
+/* Protects a frame: writes Annex A's slot of the frame and the request, all of it.
+   `frame` has exactly silberlaus_frame_size(slot_size, mode) bytes and is only read; `slot` has exactly slot_size.
+   Refusals: SILBERLAUS_BAD_SETTING slot size, mode or request; SILBERLAUS_BAD_LENGTH `frame` or `slot`. */
+uint8_t silberlaus_protect(size_t slot_size, uint32_t mode, uint32_t request,
+                           const uint8_t *frame, size_t frame_len, uint8_t *slot, size_t slot_len);
+
+/* Unprotects a received slot: corrects every word to the only valid one within mode - 1 semi-octets, and writes the frame
+   that was protected, all of it. With at most mode - 1 changed semi-octets in each word it is the sender's frame.
+   `slot` has exactly slot_size bytes and is only read: the corrected slot is not kept. `frame` has exactly
+   silberlaus_frame_size(slot_size, mode).
+   Refusals: SILBERLAUS_BAD_SETTING slot size or mode; SILBERLAUS_BAD_LENGTH `slot` or `frame`; SILBERLAUS_BEYOND_REPAIR;
+   SILBERLAUS_FOREIGN. */
+silberlaus_unprotected silberlaus_unprotect(size_t slot_size, uint32_t mode,
+                                            const uint8_t *slot, size_t slot_len, uint8_t *frame, size_t frame_len);
+
+/* ---- frames: 20 to 400 bytes, of 10 ms, at 8, 16, 24, 32 or 48 kHz */
+
+/* The lines of a frame at this rate (80, 160, 240, 320, 400); 0 where the rate is out of range. */
+size_t silberlaus_line_count(uint32_t khz);
+
+/* Reads a frame into its fields, its spectrum and its residual bits (clause 5.4).
+   `frame` is only read. `spectrum` and `residual` have exactly silberlaus_line_count(khz) entries each; accepted, all of
+   them are written: the spectrum's lines, -32,767 to 32,767, then 0; the residual bits, each 0 or 1, then 0.
+   Refusals: SILBERLAUS_BAD_SETTING the rate or the frame's length; SILBERLAUS_BAD_LENGTH `spectrum` or `residual`;
+   SILBERLAUS_BIT_ERROR with its cause. */
+silberlaus_frame silberlaus_read_frame(uint32_t khz, const uint8_t *frame, size_t frame_len,
+                                       int32_t *spectrum, size_t spectrum_len, uint8_t *residual, size_t residual_len);
+
+/* ---- the session record: entries of a frame, its request and its count, the oldest at place 0; at most 65,536 bytes
+
+   A record is the first `used` bytes of a buffer. silberlaus_record_new makes one of 4 bytes, and each addition says the
+   new used length. The calls that read one take just those bytes. */
+
+/* Writes a record of no entries into the first 4 bytes; the rest of the buffer stays.
+   Refusals: SILBERLAUS_NO_ROOM the buffer has fewer than 4 bytes. */
+uint8_t silberlaus_record_new(uint8_t *buffer, size_t capacity);
+
+/* The number of entries.
+   Refusals: SILBERLAUS_NOT_A_RECORD. */
+silberlaus_entries silberlaus_record_entries(const uint8_t *record, size_t used);
+
+/* The entry at a place: its fields, and where its frame stands in the record.
+   Refusals: SILBERLAUS_NOT_A_RECORD; SILBERLAUS_BAD_SETTING the place is not below the number of entries. */
+silberlaus_entry silberlaus_record_entry(const uint8_t *record, size_t used, size_t place);
+
+/* Adds an entry: 20 to 400 bytes of frame, request 0 to 3, count 0 to 162 (the semi_octets of silberlaus_unprotected).
+   `length` is the frame's length as the entry names it; frame_len is that of the lent buffer, and the two are equal.
+   Accepted, the record has used + length + 4 bytes; what stood before its old end number and past its new end stays.
+   Refusals: SILBERLAUS_BAD_SETTING used above capacity or above 65,536, request, count or length out of range, or
+   frame_len not length; SILBERLAUS_NOT_A_RECORD the first `used` bytes; SILBERLAUS_NO_ROOM used + length + 4 exceeds
+   capacity or 65,536. */
+silberlaus_added silberlaus_record_add(uint8_t *buffer, size_t capacity, size_t used,
+                                       const uint8_t *frame, size_t frame_len,
+                                       uint32_t request, uint32_t count, uint32_t length);
+
+/* Reads the frame of the entry at a place, where it stands: nothing is copied. Else as silberlaus_read_frame.
+   Refusals: SILBERLAUS_BAD_SETTING the rate; SILBERLAUS_BAD_LENGTH `spectrum` or `residual`; SILBERLAUS_NOT_A_RECORD;
+   SILBERLAUS_BAD_SETTING the place; SILBERLAUS_BIT_ERROR with its cause. */
+silberlaus_frame silberlaus_read_entry(const uint8_t *record, size_t used, size_t place, uint32_t khz,
+                                       int32_t *spectrum, size_t spectrum_len, uint8_t *residual, size_t residual_len);
+
+#ifdef __cplusplus
+}
+#endif
+
+#endif

@@ -1,0 +1,211 @@
+//! The structs as the library lays them out, beside those of this crate. A struct of at most 16 bytes comes back in two
+//! registers, low bytes first (System V, x86-64): here each function returns these two, whose bytes are the library's own.
+//! A larger one is written where the caller says, by a pointer that goes first.
+
+use std::mem::{align_of, offset_of, size_of};
+
+use super::{Added, Entries, Entry, Frame, Unprotected, protect, record_add, record_new};
+
+#[repr(C)]
+struct Registers {
+    low: u64,
+    high: u64,
+}
+
+unsafe extern "C" {
+    #[link_name = "silberlaus_unprotect"]
+    fn raw_unprotect(size: usize, mode: u32, slot: *const u8, n: usize, frame: *mut u8, m: usize) -> Registers;
+    #[link_name = "silberlaus_read_frame"]
+    fn raw_read_frame(
+        to: *mut u8,
+        khz: u32,
+        f: *const u8,
+        n: usize,
+        s: *mut i32,
+        l: usize,
+        r: *mut u8,
+        m: usize,
+    ) -> *mut u8;
+    #[link_name = "silberlaus_record_entries"]
+    fn raw_entries(record: *const u8, used: usize) -> Registers;
+    #[link_name = "silberlaus_record_entry"]
+    fn raw_entry(record: *const u8, used: usize, place: usize) -> Registers;
+    #[link_name = "silberlaus_record_add"]
+    fn raw_add(buffer: *mut u8, n: usize, used: usize, frame: *const u8, m: usize, q: u32, c: u32, l: u32)
+    -> Registers;
+}
+
+/// The library's bytes at a field's place are the value that the library must have given it.
+#[track_caller]
+fn field(answer: &Registers, at: usize, width: usize, value: u64) {
+    let mut bytes = [0; 16];
+    bytes[..8].copy_from_slice(&answer.low.to_le_bytes());
+    bytes[8..].copy_from_slice(&answer.high.to_le_bytes());
+    assert_eq!(bytes[at..at + width], value.to_le_bytes()[..width]);
+}
+
+const MODE: u32 = 2;
+const FRAME: [u8; 32] = [0x3c; 32];
+
+/// The slot of `FRAME` with request 3, a semi-octet changed in each of its six words.
+fn damaged_slot() -> [u8; 40] {
+    let mut slot = [0; 40];
+    assert_eq!(protect(40, MODE, 3, &FRAME, &mut slot), 0);
+    for byte in &mut slot[..3] {
+        *byte ^= 0x99;
+    }
+    slot
+}
+
+/// A record of 162 entries of 400 bytes, the last one's request 2 and count 161; and its length.
+fn long_record() -> (Vec<u8>, usize) {
+    let mut buffer = vec![0; 65536];
+    assert_eq!(record_new(&mut buffer), 0);
+    let mut used = 4;
+    for _ in 0..162 {
+        used = record_add(&mut buffer, used, &[1; 400], 2, 161).used as usize;
+    }
+    (buffer, used)
+}
+
+#[test]
+fn sizes() {
+    assert_eq!((size_of::<Unprotected>(), align_of::<Unprotected>()), (4, 2));
+    assert_eq!((size_of::<Frame>(), align_of::<Frame>()), (48, 4));
+    assert_eq!((size_of::<Added>(), align_of::<Added>()), (8, 4));
+    assert_eq!((size_of::<Entries>(), align_of::<Entries>()), (8, 4));
+    assert_eq!((size_of::<Entry>(), align_of::<Entry>()), (12, 4));
+}
+
+#[test]
+fn unprotected() {
+    let (slot, mut frame) = (damaged_slot(), [0; 32]);
+    // SAFETY: both slices are good for their lengths, and the struct comes back in registers.
+    let r = unsafe { raw_unprotect(40, MODE, slot.as_ptr(), 40, frame.as_mut_ptr(), 32) };
+    field(&r, offset_of!(Unprotected, number), 1, 0);
+    field(&r, offset_of!(Unprotected, request), 1, 3);
+    field(&r, offset_of!(Unprotected, semi_octets), 2, 6);
+    // SAFETY: as above; the frame is lent one byte short.
+    let r = unsafe { raw_unprotect(40, MODE, slot.as_ptr(), 40, frame.as_mut_ptr(), 31) };
+    field(&r, offset_of!(Unprotected, number), 1, 2);
+    field(&r, offset_of!(Unprotected, request), 1, 0);
+    field(&r, offset_of!(Unprotected, semi_octets), 2, 0);
+}
+
+#[test]
+fn added() {
+    let mut buffer = vec![0; 66000];
+    assert_eq!(record_new(&mut buffer), 0);
+    let (mut used, frame) = (4, [1; 400]);
+    for _ in 0..162 {
+        // SAFETY: both slices are good for their lengths, and the struct comes back in registers.
+        let r = unsafe { raw_add(buffer.as_mut_ptr(), 66000, used, frame.as_ptr(), 400, 2, 161, 400) };
+        used += 404;
+        field(&r, offset_of!(Added, number), 1, 0);
+        field(&r, offset_of!(Added, used), 4, used as u64);
+    }
+    // SAFETY: as above; there is no room for one more.
+    let r = unsafe { raw_add(buffer.as_mut_ptr(), 66000, used, frame.as_ptr(), 400, 2, 161, 400) };
+    field(&r, offset_of!(Added, number), 1, 6);
+    field(&r, offset_of!(Added, used), 4, 0);
+}
+
+#[test]
+fn entries() {
+    let (record, used) = long_record();
+    // SAFETY: the record is good for `used` bytes, and the struct comes back in registers.
+    let (whole, cut) = unsafe { (raw_entries(record.as_ptr(), used), raw_entries(record.as_ptr(), used - 1)) };
+    field(&whole, offset_of!(Entries, number), 1, 0);
+    field(&whole, offset_of!(Entries, entries), 4, 162);
+    field(&cut, offset_of!(Entries, number), 1, 7);
+    field(&cut, offset_of!(Entries, entries), 4, 0);
+}
+
+#[test]
+fn entry() {
+    let (record, used) = long_record();
+    // SAFETY: the record is good for `used` bytes, and the struct comes back in registers.
+    let (last, past) = unsafe { (raw_entry(record.as_ptr(), used, 161), raw_entry(record.as_ptr(), used, 162)) };
+    for (answer, number, request, count, length, start) in [(last, 0, 2, 161, 400, 161 * 404), (past, 1, 0, 0, 0, 0)] {
+        field(&answer, offset_of!(Entry, number), 1, number);
+        field(&answer, offset_of!(Entry, request), 1, request);
+        field(&answer, offset_of!(Entry, count), 1, count);
+        field(&answer, offset_of!(Entry, length), 2, length);
+        field(&answer, offset_of!(Entry, start), 4, start);
+    }
+}
+
+/// What the library writes for a frame of 48 kHz: the struct's bytes, and none beside them.
+fn frame_bytes(frame: &[u8], paint: u8) -> [u8; 48] {
+    let (mut spectrum, mut residual) = ([0; 400], [0; 400]);
+    let mut room = [u32::from_ne_bytes([paint; 4]); 20];
+    let to = room[4..].as_mut_ptr().cast::<u8>();
+    let (lines, bits) = (spectrum.as_mut_ptr(), residual.as_mut_ptr());
+    // SAFETY: the slices are good for their lengths, and from `to` on there is aligned room for more than the struct.
+    let given = unsafe { raw_read_frame(to, 48, frame.as_ptr(), frame.len(), lines, 400, bits, 400) };
+    assert_eq!(given, to);
+    let bytes: Vec<u8> = room.iter().flat_map(|word| word.to_ne_bytes()).collect();
+    assert!(bytes[..16].iter().chain(&bytes[64..]).all(|&byte| byte == paint));
+    bytes[16..64].try_into().unwrap()
+}
+
+#[test]
+fn frame() {
+    // three lines of tests/frame/frames.txt at 48 kHz; every field but two is something else than 0 in one of them
+    let two_filters = [
+        0xdc, 0x6f, 0x60, 0xc9, 0x7d, 0x42, 0xd2, 0xe4, 0x35, 0xab, 0x28, 0x3b, 0xec, 0x57, 0xb1, 0xec, 0x0f, 0xc1,
+        0xc4, 0x32, 0xe6, 0x0b, 0x0a, 0xd1, 0xc7, 0xe7, 0xb0, 0x59, 0x4f, 0x5d, 0xc6, 0xbb, 0xfa, 0x50, 0x44, 0x2a,
+        0xaf, 0x3d, 0x81, 0xdc,
+    ];
+    let pitch = [
+        0x99, 0xda, 0x7c, 0x86, 0xaa, 0xc6, 0xdb, 0xf9, 0xe1, 0x35, 0x31, 0x66, 0x05, 0xf7, 0x60, 0x8c, 0xcd, 0xf0,
+        0x3a, 0x22, 0x82, 0xaf, 0x85, 0x7d, 0xd0, 0xf2,
+    ];
+    let no_frame = [
+        0x9e, 0x4f, 0xd3, 0x2d, 0xaa, 0xf8, 0x50, 0x3b, 0x82, 0xc4, 0x0d, 0x61, 0xd5, 0xd2, 5, 0x16, 0x86, 0xcd, 0xb3,
+        0xb5,
+    ];
+    for paint in [0, 0xff] {
+        let b = frame_bytes(&two_filters, paint);
+        fields(&b, [0, 0, 4, 0, 216, 1, 1, 0, 30, 10, 1, 2, 0, 0, 7, 8, 5], [120, 0, 25, 78], 13795873);
+        assert_eq!(b[offset_of!(Frame, tns_coefficients_0)..][..8], [6, 9, 6, 5, 7, 9, 7, 11]);
+        assert_eq!(b[offset_of!(Frame, tns_coefficients_1)..][..8], [14, 11, 4, 9, 7, 0, 0, 0]);
+        let b = frame_bytes(&pitch, paint);
+        fields(&b, [0, 0, 2, 0, 221, 1, 0, 1, 21, 16, 1, 3, 1, 1, 7, 6, 0], [62, 385, 12, 39], 10627114);
+        let b = frame_bytes(&no_frame, paint);
+        fields(&b, [5, 1, 0, 0, 0, 0, 0, 0, 0, 0, 0, 0, 0, 0, 0, 0, 0], [0; 4], 0);
+    }
+}
+
+/// The fields of one byte in the header's order, those of two bytes, and the joint index.
+#[track_caller]
+fn fields(bytes: &[u8; 48], narrow: [u8; 17], wide: [u16; 4], joint: u32) {
+    let places = [
+        offset_of!(Frame, number),
+        offset_of!(Frame, cause),
+        offset_of!(Frame, bandwidth),
+        offset_of!(Frame, lsb_mode),
+        offset_of!(Frame, gain),
+        offset_of!(Frame, tns_flag_0),
+        offset_of!(Frame, tns_flag_1),
+        offset_of!(Frame, pitch_present),
+        offset_of!(Frame, shape_low),
+        offset_of!(Frame, shape_high),
+        offset_of!(Frame, shape_mode),
+        offset_of!(Frame, shape_gain),
+        offset_of!(Frame, shape_sign),
+        offset_of!(Frame, filter_flag),
+        offset_of!(Frame, noise_level),
+        offset_of!(Frame, tns_order_0),
+        offset_of!(Frame, tns_order_1),
+    ];
+    assert_eq!(places.map(|at| bytes[at]), narrow);
+    let places = [
+        offset_of!(Frame, last_line),
+        offset_of!(Frame, pitch_index),
+        offset_of!(Frame, residual_bits),
+        offset_of!(Frame, symbols),
+    ];
+    assert_eq!(places.map(|at| u16::from_le_bytes([bytes[at], bytes[at + 1]])), wide);
+    assert_eq!(bytes[offset_of!(Frame, shape_joint)..][..4], joint.to_le_bytes());
+}

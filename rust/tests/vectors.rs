@@ -1,0 +1,140 @@
+//! Every line of the three lists (README.md in tests/slot and tests/frame of the repository) through the safe functions.
+
+use std::fs;
+use std::path::Path;
+
+use silberlaus::{Frame, Refusal, Unprotected, frame_size, line_count, protect, read_frame, record, unprotect};
+
+fn list(name: &str) -> Vec<Vec<String>> {
+    let path = Path::new(env!("CARGO_MANIFEST_DIR")).join("../tests").join(name);
+    let text = fs::read_to_string(path).unwrap();
+    text.lines().map(|line| line.split(' ').map(String::from).collect()).collect()
+}
+
+fn bytes(hex: &str) -> Vec<u8> {
+    if hex == "-" {
+        return Vec::new();
+    }
+    (0..hex.len()).step_by(2).map(|at| u8::from_str_radix(&hex[at..at + 2], 16).unwrap()).collect()
+}
+
+#[test]
+fn protect_list() {
+    let lines = list("slot/protect.txt");
+    for line in &lines {
+        let [size, mode, request, frame, slot] = &line[..] else { panic!("five fields") };
+        let (mode, request) = (mode.parse().unwrap(), request.parse::<u8>().unwrap());
+        let (frame, slot) = (bytes(frame), bytes(slot));
+        assert_eq!(frame_size(size.parse().unwrap(), mode), Some(frame.len()));
+        let (mut made, mut back) = (vec![0xa5; slot.len()], vec![0xa5; frame.len()]);
+        protect(mode, request.into(), &frame, &mut made).unwrap();
+        assert_eq!(made, slot);
+        assert_eq!(unprotect(mode, &slot, &mut back), Ok(Unprotected { request, semi_octets: 0 }));
+        assert_eq!(back, frame);
+    }
+    assert_eq!(lines.len(), 173);
+}
+
+#[test]
+fn unprotect_list() {
+    let lines = list("slot/unprotect.txt");
+    for line in &lines {
+        let [size, mode, slot, number, request, semi_octets, _bits, frame] = &line[..] else { panic!("eight fields") };
+        let (mode, slot, frame) = (mode.parse().unwrap(), bytes(slot), bytes(frame));
+        let mut back = vec![0xa5; frame_size(size.parse().unwrap(), mode).unwrap()];
+        match unprotect(mode, &slot, &mut back) {
+            Ok(got) => {
+                assert_eq!(number, "0");
+                assert_eq!(got.request, request.parse::<u8>().unwrap());
+                assert_eq!(got.semi_octets, semi_octets.parse::<u16>().unwrap());
+                assert_eq!(back, frame);
+            }
+            Err(refusal) => {
+                assert_eq!(refusal.number(), number.parse::<u8>().unwrap());
+                assert!(back.iter().all(|&byte| byte == 0xa5));
+            }
+        }
+    }
+    assert_eq!(lines.len(), 299);
+}
+
+/// Numbers with commas between them; `-` is none. Those that are not there are 0.
+fn numbers<const N: usize>(text: &str) -> [i32; N] {
+    let mut numbers = [0; N];
+    for (at, number) in text.split(',').filter(|&number| number != "-").enumerate() {
+        numbers[at] = number.parse().unwrap();
+    }
+    numbers
+}
+
+/// The fields as the list has them, from the bandwidth to the number of residual bits.
+fn listed(frame: &Frame) -> Vec<String> {
+    let (tns, shape) = (&frame.tns, &frame.shape);
+    let (filter_flag, index) = frame.pitch.map_or((0, 0), |pitch| (pitch.filter_flag.into(), pitch.index.into()));
+    let sent = |filter: usize| {
+        let sent = &tns[filter].coefficients[..tns[filter].order.into()];
+        assert!(tns[filter].coefficients[sent.len()..].iter().all(|&index| index == 0));
+        if sent.is_empty() { "-".into() } else { sent.iter().map(u8::to_string).collect::<Vec<_>>().join(",") }
+    };
+    let mut fields: Vec<String> = [
+        frame.bandwidth.into(),
+        frame.last_line.into(),
+        frame.lsb_mode.into(),
+        frame.gain.into(),
+        tns[0].flag.into(),
+        tns[1].flag.into(),
+        frame.pitch.is_some().into(),
+        shape.low.into(),
+        shape.high.into(),
+        shape.mode.into(),
+        shape.gain.into(),
+        shape.sign.into(),
+        shape.joint,
+        filter_flag,
+        index,
+        frame.noise_level.into(),
+        tns[0].order.into(),
+        tns[1].order.into(),
+    ]
+    .map(|field: u32| field.to_string())
+    .into();
+    fields.extend([sent(0), sent(1), frame.symbols.to_string(), frame.residual_bits.to_string()]);
+    fields
+}
+
+#[test]
+fn frames_list() {
+    let lines = list("frame/frames.txt");
+    for line in &lines {
+        let (khz, frame) = (line[0].parse().unwrap(), bytes(&line[1]));
+        let count = line_count(khz).unwrap_or(400);
+        let (mut spectrum, mut residual) = (vec![-7; count], vec![0xa5; count]);
+        match read_frame(khz, &frame, &mut spectrum, &mut residual) {
+            Ok(fields) => {
+                assert_eq!(line[2..4], ["0", "0"]);
+                assert_eq!(listed(&fields), line[4..26]);
+                let bits = line[26].bytes().filter(|&bit| bit != b'-').map(|bit| bit - b'0');
+                assert_eq!(residual, bits.chain(std::iter::repeat(0)).take(count).collect::<Vec<_>>());
+                assert_eq!(spectrum, numbers::<400>(&line[27])[..count]);
+            }
+            Err(refusal) => {
+                let cause = if let Refusal::BitError(cause) = refusal { cause as u8 } else { 0 };
+                assert_eq!(line[2..], [refusal.number().to_string(), cause.to_string()]);
+                assert!(spectrum.iter().all(|&line| line == -7) && residual.iter().all(|&bit| bit == 0xa5));
+            }
+        }
+        reads_as_entry(khz, &frame, &spectrum, &residual);
+    }
+    assert_eq!(lines.len(), 388);
+}
+
+/// The frame as an entry of a record reads as the frame alone does, where it can be one.
+fn reads_as_entry(khz: u32, frame: &[u8], spectrum: &[i32], residual: &[u8]) {
+    let mut buffer = vec![0; 1024];
+    let used = record::new(&mut buffer).unwrap();
+    let Ok(used) = record::add(&mut buffer, used, frame, 0, 0) else { return };
+    let (mut lines, mut bits) = (vec![-7; spectrum.len()], vec![0xa5; residual.len()]);
+    let alone = read_frame(khz, frame, &mut lines.clone(), &mut bits.clone());
+    assert_eq!(record::read(&buffer[..used], 0, khz, &mut lines, &mut bits), alone);
+    assert_eq!((&lines[..], &bits[..]), (spectrum, residual));
+}

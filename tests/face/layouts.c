@@ -1,0 +1,118 @@
+/* The structs as the library lays them out, beside the header's. A struct of at most 16 bytes comes back in two registers,
+   low bytes first (System V, x86-64). Here each call returns these two, whose bytes are the library's own, and every field
+   must stand where the header has it. A larger one is written where the caller says, by a pointer that goes first. */
+#include <string.h>
+
+#include "check.h"
+
+_Static_assert(sizeof(silberlaus_unprotected) == 4, "four bytes, one register");
+_Static_assert(sizeof(silberlaus_added) == 8, "eight bytes, one register");
+_Static_assert(sizeof(silberlaus_entries) == 8, "eight bytes, one register");
+_Static_assert(sizeof(silberlaus_entry) == 12, "twelve bytes, two registers");
+_Static_assert(sizeof(silberlaus_frame) == 48, "forty-eight bytes, in memory");
+
+/* The same functions, returning what is in the two registers. */
+typedef struct { uint64_t low, high; } registers;
+registers raw_unprotect(size_t, uint32_t, const uint8_t *, size_t, uint8_t *, size_t) __asm__("silberlaus_unprotect");
+registers raw_entries(const uint8_t *, size_t) __asm__("silberlaus_record_entries");
+registers raw_entry(const uint8_t *, size_t, size_t) __asm__("silberlaus_record_entry");
+registers raw_add(uint8_t *, size_t, size_t, const uint8_t *, size_t, uint32_t, uint32_t,
+                  uint32_t) __asm__("silberlaus_record_add");
+void *raw_read_frame(void *, uint32_t, const uint8_t *, size_t, int32_t *, size_t, uint8_t *,
+                     size_t) __asm__("silberlaus_read_frame");
+
+/* A field of the header: where it is, how wide, and the value that the library gave it. */
+typedef struct { size_t at, width; uint64_t value; } field;
+#define FIELD(type, name, value) {offsetof(type, name), sizeof ((type *)0)->name, value}
+
+static void fields_are(const void *answer, const field *fields, size_t count)
+{
+    const uint8_t *bytes = answer;
+    for (size_t k = 0; k < count; k++)
+        for (size_t j = 0; j < fields[k].width; j++)
+            EXPECT(bytes[fields[k].at + j] == (uint8_t)(fields[k].value >> 8 * j));
+}
+
+#define ARE(answer, ...) fields_are(&(answer), (const field[]){__VA_ARGS__}, COUNT(((const field[]){__VA_ARGS__})))
+
+static void unprotected(void)
+{
+    typedef silberlaus_unprotected S;
+    uint8_t received[SIZE], room[FRAME_SIZE];
+    memcpy(received, slot, SIZE);
+    for (size_t i = 0; i < WORDS; i++)
+        damage(received, SIZE, i, REPAIRABLE);
+    registers r = raw_unprotect(SIZE, MODE, received, SIZE, room, FRAME_SIZE);
+    ARE(r, FIELD(S, number, 0), FIELD(S, request, REQUEST), FIELD(S, semi_octets, WORDS * REPAIRABLE));
+    r = raw_unprotect(SIZE, MODE, received, SIZE, room, 1);
+    ARE(r, FIELD(S, number, SILBERLAUS_BAD_LENGTH), FIELD(S, request, 0), FIELD(S, semi_octets, 0));
+}
+
+static uint8_t record[SILBERLAUS_RECORD_MAX], frames[SILBERLAUS_FRAME_MAX];
+
+/* Entries of 400 bytes, so that the last one starts at `start`, above 65,000. */
+enum { LONG_ENTRIES = 162, START = (LONG_ENTRIES - 1) * 404, USED = START + 408 };
+
+static void added(void)
+{
+    typedef silberlaus_added S;
+    registers r = {0, 0};
+    size_t used = SILBERLAUS_RECORD_MIN;
+    EXPECT(silberlaus_record_new(record, sizeof record) == SILBERLAUS_ACCEPTED);
+    for (uint32_t k = 0; k < LONG_ENTRIES; k++) {
+        r = raw_add(record, sizeof record, used, frames, 400, 2, 161, 400);
+        used += 404;
+        ARE(r, FIELD(S, number, 0), FIELD(S, used, used));
+    }
+    r = raw_add(record, sizeof record, used, frames, 400, 2, 161, 400);
+    ARE(r, FIELD(S, number, SILBERLAUS_NO_ROOM), FIELD(S, used, 0));
+}
+
+static void entries(void)
+{
+    typedef silberlaus_entries S;
+    registers r = raw_entries(record, USED);
+    ARE(r, FIELD(S, number, 0), FIELD(S, entries, LONG_ENTRIES));
+    r = raw_entries(record, USED - 1);
+    ARE(r, FIELD(S, number, SILBERLAUS_NOT_A_RECORD), FIELD(S, entries, 0));
+}
+
+static void entry(void)
+{
+    typedef silberlaus_entry S;
+    registers r = raw_entry(record, USED, LONG_ENTRIES - 1);
+    ARE(r, FIELD(S, number, 0), FIELD(S, request, 2), FIELD(S, count, 161), FIELD(S, length, 400), FIELD(S, start, START));
+    r = raw_entry(record, USED, LONG_ENTRIES);
+    ARE(r, FIELD(S, number, SILBERLAUS_BAD_SETTING), FIELD(S, request, 0), FIELD(S, count, 0), FIELD(S, length, 0),
+        FIELD(S, start, 0));
+}
+
+/* The library writes the struct's bytes and none beside them, and every field where the header has it. */
+static void frame_of(const sample *s, uint8_t paint)
+{
+    static int32_t spectrum[SILBERLAUS_LINES_MAX];
+    static uint8_t residual[SILBERLAUS_LINES_MAX];
+    struct { uint8_t before[GUARD]; silberlaus_frame answer; uint8_t after[GUARD]; } room;
+    uint8_t bytes[SILBERLAUS_FRAME_MAX];
+    size_t length = sample_bytes(s, bytes), lines = silberlaus_line_count(s->khz);
+    memset(&room, paint, sizeof room);
+    EXPECT(raw_read_frame(&room.answer, s->khz, bytes, length, spectrum, lines, residual, lines) == &room.answer);
+    for (size_t k = 0; k < GUARD; k++)
+        EXPECT(room.before[k] == paint && room.after[k] == paint);
+    for (size_t k = 0; k < FRAME_FIELDS; k++) {
+        size_t at = frame_fields[k].at;
+        EXPECT(memcmp((uint8_t *)&room.answer + at, (const uint8_t *)&s->fields + at, frame_fields[k].width) == 0);
+    }
+}
+
+void layouts(void)
+{
+    for (size_t k = 0; k < SAMPLES; k++) {
+        frame_of(&samples[k], 0x00);
+        frame_of(&samples[k], 0xff);
+    }
+    unprotected();
+    added();
+    entries();
+    entry();
+}
