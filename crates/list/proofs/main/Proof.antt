@@ -8,11 +8,11 @@ use Rattle.record.proofs.Lines.{listed-most}
 use Rattle.record.specs.Listing.{listedAnswer}
 use Rattle.list.proofs.main.Statement.{statement}
 
-slice-aggregate-read-input : tie.Need-slice-aggregate-read-input
-slice-aggregate-read-input c = search needs
+slice-aggregate-read-all : tie.Need-slice-aggregate-read-all
+slice-aggregate-read-all c = search needs
 
-read-input-requires : tie.Need-read-input-requires
-read-input-requires c κs = search needs
+read-all-requires : tie.Need-read-all-requires
+read-all-requires c κs = search needs
 
 enum-known-input : tie.Need-enum-known-input
 enum-known-input c = search needs
@@ -31,7 +31,7 @@ returns c = search needs
 
 array-share-prefix-bytes : tie.Need-array-share-prefix-bytes
 array-share-prefix-bytes c =
-    let f = rw (c .before .input .given .1) at (c .before .before .before .before .read-input .ensures) in
+    let f = rw (c .before .input .given .1) at (c .before .before .before .before .read-all .ensures) in
     omega arith
 
 slice-aggregate-list : tie.Need-slice-aggregate-list
@@ -82,8 +82,8 @@ pub main-spec : {M : Type 1} → statement M
 main-spec =
     tie.close
     (tie.spec
-    slice-aggregate-read-input
-    read-input-requires
+    slice-aggregate-read-all
+    read-all-requires
     enum-known-input
     enum-told
     slice-aggregate-write-all

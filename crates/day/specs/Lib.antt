@@ -1,0 +1,3 @@
+-- What the steps of the walk promise each other.
+pub mod Air
+pub mod Sample

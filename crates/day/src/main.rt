@@ -1,0 +1,83 @@
+// Walks the path of the speech on the sample on standard input: each frame is protected in a slot, the slot is changed by a fixed
+// rule, unprotected, read and stored in a record; then says what happened. It stands over `slot`, `frame` and `record`, and over
+// the C library's read and write, whose effects no contract covers. What goes wrong is said on standard error.
+mod air;
+mod report;
+mod sample;
+mod tally;
+mod text;
+mod way;
+
+use input::Input;
+use libc::STDERR_FILENO;
+use libc::STDIN_FILENO;
+use libc::STDOUT_FILENO;
+use record::Listed;
+use sample::Surveyed;
+
+fn main() {
+    let mut bytes = [0u8; 65537];
+    let input = input::read_all(STDIN_FILENO, &mut bytes);
+    let Input::Bytes(n) = input else {
+        say(b"day: the sample cannot be read\n");
+        return;
+    };
+    if 65536 < n {
+        say(b"day: the sample is longer than 65,536 bytes\n");
+        return;
+    }
+    let sample = &bytes[..n];
+    let surveyed = sample::survey(sample);
+    match surveyed {
+        Surveyed::Frames(frames) => run(sample, frames),
+        Surveyed::CutShort => say(b"day: the sample is cut short\n"),
+        Surveyed::UnknownRate => {
+            say(b"day: the sample has a rate that is none of 8, 16, 24, 32 and 48 kHz\n")
+        }
+        Surveyed::BadLength => {
+            say(b"day: the sample has a frame that is not of 20 to 400 bytes\n")
+        }
+    }
+}
+
+fn say(text: &[u8]) {
+    io::write_all(STDERR_FILENO, text);
+}
+
+// The walk with a new record, then what is written.
+fn run(sample: &[u8], frames: usize) {
+    let mut buffer = [0u8; 10000];
+    let mut text = [0u8; 8192];
+    let mut lines = [0u8; 65536];
+    record::new(&mut buffer);
+    if show(sample, frames, &mut buffer, &mut text, &mut lines) {
+        return;
+    }
+    say(b"day: standard output cannot be written\n");
+}
+
+// Walks, and writes the report and the record's listing; answers whether both were written.
+fn show(
+    sample: &[u8],
+    frames: usize,
+    buffer: &mut [u8],
+    text: &mut [u8],
+    lines: &mut [u8],
+) -> bool {
+    let t = way::walk(sample, buffer, 4);
+    let end = report::report(text, frames, buffer.len(), t);
+    let used = t.used;
+    // Never taken: an entry is stored only where there is room for it.
+    if buffer.len() < used {
+        return false;
+    }
+    let listed = record::list(&buffer[..used], lines);
+    // Never taken: the buffer has the room that every listing fits.
+    let Listed::From(at) = listed else {
+        return false;
+    };
+    if io::write_all(STDOUT_FILENO, &text[..end]) {
+        return io::write_all(STDOUT_FILENO, &lines[at..]);
+    }
+    false
+}

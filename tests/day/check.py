@@ -1,0 +1,139 @@
+#!/usr/bin/env python3
+"""Runs the program `day`, which is named on the command line, and fails where it does not say what it should.
+
+The numbers of its report are counted here again, from tests/frame/frames.txt and document 01 alone; then it is lent samples that
+are damaged, an input that cannot be read and an output that cannot be written.
+"""
+import os
+import pathlib
+import subprocess
+import sys
+
+ROOT = pathlib.Path(__file__).resolve().parents[2]
+SAMPLE = (ROOT / "crates/day/stdin").read_bytes()
+ROOM = 10000
+failed = []
+
+
+def expect(name, right):
+    print(f"{'ok' if right else 'FAILED'}: {name}")
+    if not right:
+        failed.append(name)
+
+
+def words(size):
+    return -(-2 * size // 15)
+
+
+def frame_size(size, mode):
+    return size - (mode - 1) * words(size) - 2 - (size > 40) - 2 * (mode > 2 and size >= 80)
+
+
+def slot_for(length):
+    """The smallest slot, and in it the strongest mode, with room for exactly so many bytes."""
+    fitting = ((size, mode) for size in range(40, 401) for mode in (4, 3, 2) if frame_size(size, mode) == length)
+    return next(fitting, None)
+
+
+def frames():
+    """The length, the last line and the number of symbols of each accepted frame of the list."""
+    for line in (ROOT / "tests/frame/frames.txt").read_text().splitlines():
+        fields = line.split()
+        if fields[2] == "0":
+            yield len(fields[1]) // 2, int(fields[5]), int(fields[24])
+
+
+def counted():
+    """What the report must say, by the words of its lines, and the record's entries; refusals 3 and 4 are one sum."""
+    sent, ways, total, entries, used = {2: 0, 3: 0, 4: 0}, [0] * 4, dict(left=0, changed=0, lines=0, symbols=0, refused=0), [], 4
+    for place, (length, last, symbols) in enumerate(frames()):
+        slot = slot_for(length)
+        if slot is None:
+            total["left"] += 1
+            continue
+        size, mode = slot
+        way = place // 4 % 4
+        changes = (0, 1 + place % 5, (mode - 1) * words(size), mode * words(size))[way]
+        sent[mode] += 1
+        ways[way] += 1
+        if way == 3:
+            total["refused"] += 1
+            continue
+        total["changed"] += changes
+        total["lines"] += last
+        total["symbols"] += symbols
+        if used + length + 4 > ROOM:
+            break
+        used += length + 4
+        entries.append((length, place % 4, changes))
+    return sent, ways, total, entries, used
+
+
+def report_numbers(text):
+    """The number at the end of each fact, by what stands before it, under its heading."""
+    found, heading = {}, ""
+    for line in text.splitlines():
+        if line.startswith("  "):
+            what, number = line.rsplit(None, 1)
+            found[heading, what.strip()] = int(number)
+        else:
+            heading = line
+    return found
+
+
+def check_report(text):
+    sent, ways, total, entries, used = counted()
+    report, listing = text.split("\nIts listing", 1)
+    said = report_numbers(report)
+    by = {}
+    for (heading, what), number in said.items():
+        by.setdefault(heading, []).append(number)
+    accepted = sum(ways[:3])
+    expect("the sample is counted", by["The sample"] == [len(list(frames())), total["left"], sum(sent.values()),
+                                                         len(list(frames())) - total["left"] - sum(sent.values())])
+    expect("slots by mode", by["Slots sent, by mode"] == [sent[2], sent[3], sent[4]])
+    expect("slots by what happens on the way", by["Slots sent, by what happens on the way"] == ways)
+    expect("clean, repaired and how much", by["Slots accepted"] == [ways[0], ways[1] + ways[2], total["changed"]])
+    expect("nothing differs from what was sent", by["Accepted slots beside what was sent"] == [0, 0, 0])
+    expect("frames read", by["Accepted frames read into their fields"] == [accepted, total["lines"], total["symbols"]])
+    refused = by["Refused, by number"]
+    expect("refused: all that was damaged beyond repair, and what had no room", refused[:2] == [0, 0]
+           and refused[2] + refused[3] == total["refused"] and refused[4:] == [0, accepted - len(entries), 0])
+    expect("the record", by["The record"] == [ROOM, used, len(entries)])
+    wanted = [f"records {len(entries)}"] + [f"{i} {n} {q} {c}" for i, (n, q, c) in enumerate(entries)]
+    expect("the listing", listing.splitlines()[2:] == wanted)
+
+
+def run(program, data, **more):
+    return subprocess.run([program], input=data, capture_output=True, timeout=60, **more)
+
+
+def check_damaged(program, name, data, says):
+    got = run(program, data)
+    expect(f"a sample that {name}", got.stdout == b"" and got.stderr == b"day: " + says + b"\n")
+
+
+def main(program):
+    got = run(program, SAMPLE)
+    expect("the stored output is what it writes", got.stdout == (ROOT / "crates/day/stdout").read_bytes() and got.stderr == b"")
+    check_report(got.stdout.decode())
+    check_damaged(program, "ends in a frame", SAMPLE[:-1], b"the sample is cut short")
+    check_damaged(program, "ends in a length", SAMPLE[:2], b"the sample is cut short")
+    check_damaged(program, "has an unknown rate", b"\x2c" + SAMPLE[1:], b"the sample has a rate that is none of 8, 16, 24, 32 and 48 kHz")
+    for length in (19, 401):
+        data = b"\x10" + length.to_bytes(2, "big") + bytes(length)
+        check_damaged(program, f"has a frame of {length} bytes", data, b"the sample has a frame that is not of 20 to 400 bytes")
+    check_damaged(program, "is too long", bytes(65537), b"the sample is longer than 65,536 bytes")
+    folder = os.open(ROOT, os.O_RDONLY)
+    got = subprocess.run([program], stdin=folder, capture_output=True, timeout=60)
+    expect("a sample that cannot be read", got.stdout == b"" and got.stderr == b"day: the sample cannot be read\n")
+    with open("/dev/full", "wb") as full:
+        got = subprocess.run([program], input=SAMPLE, stdout=full, stderr=subprocess.PIPE, timeout=60)
+    expect("an output that cannot be written", got.stderr == b"day: standard output cannot be written\n")
+    sys.exit(1 if failed else 0)
+
+
+if __name__ == "__main__":
+    if len(sys.argv) != 2:
+        sys.exit(__doc__)
+    main(sys.argv[1])
