@@ -1,31 +1,49 @@
-# make test: all that is proved and tested. make day: the main job, as far as it exists. make bench: speed against C.
-# make bench-slot: speed of a slot. make faults, faults-slot: the tests notice what is wrong.
-.PHONY: test day bench bench-slot build-tests faults faults-slot clean
+# make test: all that is proved and tested. make day: the day's path on a sample. make bench: speed beside C, of
+# slots, frames and records; make bench-words: of code words alone. make faults, faults-slot, faults-frame: the tests notice
+# what is wrong. make lc3-frame: frames of another encoder, where it is installed; list-frame: such frames for the benchmark.
+# make test-rust: the Rust crate.
+.PHONY: test day bench bench-words build-tests faults faults-slot faults-frame lc3-frame list-frame test-rust clean
 .DELETE_ON_ERROR:
 
 CC := gcc
-CFLAGS := -std=c11 -O2 -Wall -Wextra -Werror
+CXX := g++
+CFLAGS := -std=c11 -O2 -Wall -Wextra -Werror -Iinclude
+CXXFLAGS := -std=c++11 -O2 -Wall -Wextra -Wpedantic -Werror -Iinclude
+FACE_ARCHIVE := target/staticlib/libsilberlaus.a
 RATTLE := crates.txt $(shell find crates -name '*.rt' -o -name '*.antt')
 WORDS := tests/code_word
 BUILT := target/tests/code_word
 HAND := $(addprefix $(WORDS)/,tables.c make.c general.c closed.c)
-CASES := tests/common/cases.c
+CASES := tests/common/cases.c tests/common/said.c
 SLOT := tests/slot
 SLOT_BUILT := target/tests/slot
+QUICK := $(SLOT)/quick.c $(addprefix $(WORDS)/,tables.c make.c closed.c)
+RECORD := tests/record
+RECORD_BUILT := target/tests/record
+FACE := tests/face
+FACE_BUILT := target/tests/face
+FRAME := tests/frame
+# FRAME_READER=tests/frame/stand_in.c tries the frame's tests and the benchmark without the archive's reader, and builds
+# them in a folder of their own
+FRAME_READER := $(FACE_ARCHIVE)
+FRAME_BUILT := target/tests/frame$(if $(filter %.c,$(FRAME_READER)),_stand_in)
+BENCH := tests/bench
+BENCH_BUILT := target/tests/bench$(if $(filter %.c,$(FRAME_READER)),_stand_in)
 
 test:
 	@tests/run
 
-day: $(BUILT)/day
-	@$(BUILT)/day
+day: target/bin/day
+	@target/bin/day <crates/day/stdin
 
-bench: $(BUILT)/bench
+bench: $(BENCH_BUILT)/bench
+	@$(BENCH_BUILT)/bench
+
+bench-words: $(BUILT)/bench
 	@$(BUILT)/bench
 
-bench-slot: $(SLOT_BUILT)/bench
-	@$(SLOT_BUILT)/bench
-
-build-tests: $(BUILT)/check $(BUILT)/day $(BUILT)/bench $(SLOT_BUILT)/check $(SLOT_BUILT)/bench
+build-tests: $(BUILT)/check $(BUILT)/bench $(SLOT_BUILT)/check $(FRAME_BUILT)/check $(RECORD_BUILT)/check \
+		$(BENCH_BUILT)/bench $(FACE_BUILT)/check $(FACE_BUILT)/from_cpp
 
 faults:
 	@$(WORDS)/faults $(CC) $(CFLAGS)
@@ -33,23 +51,61 @@ faults:
 faults-slot:
 	@$(SLOT)/faults $(CC) $(CFLAGS)
 
+faults-frame:
+	@$(FRAME)/faults $(CC) $(CFLAGS)
+
+lc3-frame: $(FRAME_READER)
+	@$(FRAME)/lc3 read $(FRAME_READER) $(CC) $(CFLAGS)
+
+list-frame:
+	@$(FRAME)/lc3 list $(CC) $(CFLAGS)
+
+test-rust:
+	cd rust && cargo test --offline
+
 clean:
 	rm -rf target
 
-# rt builds an archive from proved crates only
+# rt builds a program and an archive from proved crates only; it leaves alone what has not changed, hence the touch
+target/bin/day: $(RATTLE) crates/day/stdin crates/day/stdout
+	rt check day
+	@touch $@
+
 target/staticlib/lib%.a: $(RATTLE)
 	rt staticlib $*
 
 $(BUILT)/check: $(WORDS)/check.c $(WORDS)/search.c $(CASES) $(CASES:.c=.h)
-$(BUILT)/day: $(WORDS)/day.c
-$(BUILT)/bench: $(WORDS)/bench.c $(HAND)
-$(BUILT)/check $(BUILT)/day $(BUILT)/bench: target/staticlib/libword_calls.a $(wildcard $(WORDS)/*.h)
+$(BUILT)/bench: $(WORDS)/bench.c $(HAND) tests/common/said.c tests/common/said.h
+$(BUILT)/check $(BUILT)/bench: target/staticlib/libword_calls.a $(wildcard $(WORDS)/*.h)
 	@mkdir -p $(BUILT)
 	$(CC) $(CFLAGS) -o $@ $(filter %.c,$^) $(filter %.a,$^)
 
-$(SLOT_BUILT)/check: $(SLOT)/check.c $(CASES) $(CASES:.c=.h)
-$(SLOT_BUILT)/bench: $(SLOT)/bench.c
-$(SLOT_BUILT)/check $(SLOT_BUILT)/bench: $(SLOT)/reference.c $(WORDS)/search.c target/staticlib/libslot_calls.a \
-		$(wildcard $(SLOT)/*.h) $(WORDS)/search.h
+$(SLOT_BUILT)/check: $(addprefix $(SLOT)/,check.c damage.c reference.c) $(QUICK) $(WORDS)/search.c $(CASES) $(FACE_ARCHIVE) \
+		$(wildcard $(SLOT)/*.h $(WORDS)/*.h) $(CASES:.c=.h) include/silberlaus.h
 	@mkdir -p $(SLOT_BUILT)
 	$(CC) $(CFLAGS) -o $@ $(filter %.c,$^) $(filter %.a,$^)
+
+$(FRAME_BUILT)/check: $(addprefix $(FRAME)/,check.c lend.c reference.c) $(CASES) $(FRAME_READER) $(wildcard $(FRAME)/*.h) \
+		$(CASES:.c=.h) include/silberlaus.h
+	@mkdir -p $(FRAME_BUILT)
+	$(CC) $(CFLAGS) -o $@ $(filter %.c,$^) $(filter %.a,$^)
+
+$(RECORD_BUILT)/check: $(addprefix $(RECORD)/,check.c reference.c) $(CASES) $(FACE_ARCHIVE) $(RECORD)/reference.h $(CASES:.c=.h) \
+		include/silberlaus.h
+	@mkdir -p $(RECORD_BUILT)
+	$(CC) $(CFLAGS) -o $@ $(filter %.c,$^) $(filter %.a,$^)
+
+$(BENCH_BUILT)/bench: LC3_FLAGS = $(shell $(FRAME)/lc3 flags $(CC) $(CFLAGS))
+$(BENCH_BUILT)/bench: $(wildcard $(BENCH)/*.c) $(SLOT)/damage.c $(SLOT)/reference.c $(QUICK) $(WORDS)/search.c \
+		$(FRAME)/lend.c $(FRAME)/reference.c $(RECORD)/reference.c $(CASES) $(sort $(FRAME_READER) $(FACE_ARCHIVE)) \
+		$(wildcard $(addsuffix /*.h,$(BENCH) $(SLOT) $(WORDS) $(FRAME) $(RECORD))) $(CASES:.c=.h) include/silberlaus.h
+	@mkdir -p $(BENCH_BUILT)
+	$(CC) $(CFLAGS) $(if $(filter %.c,$(FRAME_READER)),-DFRAME_STAND_IN) -o $@ $(filter %.c,$^) $(filter %.a,$^) $(LC3_FLAGS)
+
+$(FACE_BUILT)/check: $(wildcard $(FACE)/*.c $(FACE)/*.h) $(FACE_ARCHIVE) include/silberlaus.h
+	@mkdir -p $(FACE_BUILT)
+	$(CC) $(CFLAGS) -o $@ $(filter %.c,$^) $(filter %.a,$^)
+
+$(FACE_BUILT)/from_cpp: $(FACE)/from_cpp.cc $(FACE_ARCHIVE) include/silberlaus.h
+	@mkdir -p $(FACE_BUILT)
+	$(CXX) $(CXXFLAGS) -o $@ $(filter %.cc,$^) $(filter %.a,$^)
