@@ -39,7 +39,7 @@ pub record Sized (s : List ℕ) : Type 0 where
 abbrev pub rateOffset : ℕ → ℕ → ℕ
 rateOffset index bytes = cond (ltb (160 + 160 * index) (8 * bytes)) 512 0
 
--- 5.3.8.2, tns_lpc_weighting, 1 below 480 bits
+-- 5.3.9.2, tns_lpc_weighting, 1 below 480 bits
 abbrev pub weighting : ℕ → ℕ
 weighting bytes = cond (ltb (8 * bytes) 480) 1 0
 
