@@ -1,4 +1,4 @@
--- What the code of the hashes asks: a push in the machine's operations, and a turn of the loop over semi-octets.
+-- What the code of the hashes asks: a push in the machine's operations, and a turn of the loops over semi-octets.
 -- Assumes nothing.
 use mathlib.Core.Path.{_≡_, refl, sym, ap, _∙_}
 use mathlib.Core.List.{List, _∷_}
@@ -12,6 +12,7 @@ use lib.Seq.{drop-cons, drop-length, take-all}
 use borrow.Author.Tests.{eq-eqb, ne-eqb}
 use Rattle.gf16.specs.Field.{sum}
 use Rattle.slot.specs.Hash.{Degree, pushed, hash, bitsOf, powers, poly14, poly16, poly22}
+use Rattle.slot.specs.Inner.{semiPushed}
 use Rattle.slot.specs.Sizes.{frameSize, conceal, hash1}
 use Rattle.slot.specs.Order.{partN, partP, firstHash, secondHash}
 use Rattle.slot.proofs.Hash.{pushed-lt, sum-below, bit-lt}
@@ -46,7 +47,7 @@ push-is p n b r v w d h k l e f =
     let y = pushed-lt p n b r d k l in
     (x, omega arith)
 
--- ---- the loop over semi-octets
+-- ---- the loops over semi-octets
 
 hash-cons : (p n c : ℕ) (s : List ℕ) → hash p n (bitsOf (c ∷ s)) ≡ pushed p n (c % 2) (pushed p n (c / 2 % 2) (pushed p n (c / 4 % 2) (pushed p n (c / 8 % 2) (hash p n (bitsOf s)))))
 unfolding hash bitsOf
@@ -56,34 +57,53 @@ pub hash-first : (p n : ℕ) (s : List ℕ) → 0 ≡ hash p n (bitsOf (drop (le
 unfolding hash bitsOf
 hash-first p n s = sym (ap (λ (l : List ℕ). hash p n (bitsOf l)) (drop-length s))
 
+hash-at : (p n : ℕ) (s : List ℕ) (j i r : ℕ) → i ≡ suc j → j < length s → r ≡ hash p n (bitsOf (drop i s))
+    → semiPushed p n (getD s j 0) r ≡ hash p n (bitsOf (drop j s))
+hash-at p n s j i r k h e =
+    ap (semiPushed p n (getD s j 0)) (e ∙ ap (λ (x : ℕ). hash p n (bitsOf (drop x s))) k)
+    ∙ sym (hash-cons p n (getD s j 0) (drop (suc j) s))
+    ∙ ap (λ (t : List ℕ). hash p n (bitsOf t)) (sym (drop-cons s j 0 h))
+
 pub hash-next : (p n : ℕ) (s : List ℕ) (i r v : ℕ) → 0 < i → i ≤ length s → r ≡ hash p n (bitsOf (drop i s))
-    → v ≡ pushed p n (getD s (i - 1) 0 % 2) (pushed p n (getD s (i - 1) 0 / 2 % 2) (pushed p n (getD s (i - 1) 0 / 4 % 2) (pushed p n (getD s (i - 1) 0 / 8 % 2) r)))
-    → v ≡ hash p n (bitsOf (drop (i - 1) s))
-hash-next p n s i r v h l e f =
-    let k : suc (i - 1) ≡ i = omega arith in
-    let j : i - 1 < length s = omega arith in
-    let c : ℕ = getD s (i - 1) 0 in
-    let g : r ≡ hash p n (bitsOf (drop (suc (i - 1)) s)) = rw k e in
-    f ∙ ap (λ (x : ℕ). pushed p n (c % 2) (pushed p n (c / 2 % 2) (pushed p n (c / 4 % 2) (pushed p n (c / 8 % 2) x)))) g
-    ∙ sym (hash-cons p n c (drop (suc (i - 1)) s))
-    ∙ ap (λ (t : List ℕ). hash p n (bitsOf t)) (sym (drop-cons s (i - 1) 0 j))
+    → v ≡ semiPushed p n (getD s (i - 1) 0) r → v ≡ hash p n (bitsOf (drop (i - 1) s))
+hash-next p n s i r v h l e f = f ∙ hash-at p n s (i - 1) i r (omega arith) (omega arith) e
+
+pub hash-next-four : (p n : ℕ) (s : List ℕ) (i r v : ℕ) → 4 ≤ i → i ≤ length s → r ≡ hash p n (bitsOf (drop i s))
+    → v ≡ semiPushed p n (getD s (i - 4) 0) (semiPushed p n (getD s (i - 4 + 1) 0) (semiPushed p n (getD s (i - 4 + 2) 0) (semiPushed p n (getD s (i - 4 + 3) 0) r)))
+    → v ≡ hash p n (bitsOf (drop (i - 4) s))
+hash-next-four p n s i r v h l e f =
+    let j : ℕ = i - 4 in
+    let x3 = hash-at p n s (j + 3) i r (omega arith) (omega arith) e in
+    let x2 = hash-at p n s (j + 2) (j + 3) _ (omega arith) (omega arith) x3 in
+    let x1 = hash-at p n s (j + 1) (j + 2) _ (omega arith) (omega arith) x2 in
+    f ∙ hash-at p n s j (j + 1) _ (omega arith) (omega arith) x1
+
+-- the rest of a row, as a part of it
+pub hash-rest : (p n : ℕ) (s : List ℕ) (i v : ℕ) → v ≡ hash p n (bitsOf (take (length s - i) (drop i s))) → v ≡ hash p n (bitsOf (drop i s))
+hash-rest p n s i v f =
+    let d = length-drop i s in
+    let l : length (drop i s) ≤ length s - i = omega arith in
+    f ∙ ap (λ (t : List ℕ). hash p n (bitsOf t)) (take-all (length s - i) (drop i s) l)
 
 -- ---- the two hashes
 
-pub first-forty : (size mode q e : ℕ) (a : List ℕ) (v : ℕ) → size ≡ 40 → e ≡ 2 * frameSize size mode - conceal size mode
-    → v ≡ pushed 17989 14 (q % 2) (pushed 17989 14 (q / 2 % 2) (hash 17989 14 (bitsOf (take e a)))) → v ≡ firstHash size mode q a
+pub first-forty : (size mode q e : ℕ) (a : List ℕ) (r v : ℕ) → size ≡ 40 → e ≡ 2 * frameSize size mode - conceal size mode
+    → r ≡ hash 17989 14 (bitsOf (take e a)) → v ≡ pushed 17989 14 (q % 2) (pushed 17989 14 (q / 2 % 2) r) → v ≡ firstHash size mode q a
 unfolding firstHash partN hash1 hash poly14 powers
-first-forty size mode q e a v h k f = rw (eq-eqb size 40 h) (rw k at f)
+first-forty size mode q e a r v h k g f =
+    let w : v ≡ pushed 17989 14 (q % 2) (pushed 17989 14 (q / 2 % 2) (hash 17989 14 (bitsOf (take e a)))) =
+    f ∙ ap (λ (x : ℕ). pushed 17989 14 (q % 2) (pushed 17989 14 (q / 2 % 2) x)) g in
+    rw (eq-eqb size 40 h) (rw k at w)
 
-pub first-other : (size mode q e : ℕ) (a : List ℕ) (v : ℕ) → (size ≡ 40 → ⊥) → e ≡ 2 * frameSize size mode - conceal size mode
-    → v ≡ pushed 4788009 22 (q % 2) (pushed 4788009 22 (q / 2 % 2) (hash 4788009 22 (bitsOf (take e a)))) → v ≡ firstHash size mode q a
+pub first-other : (size mode q e : ℕ) (a : List ℕ) (r v : ℕ) → (size ≡ 40 → ⊥) → e ≡ 2 * frameSize size mode - conceal size mode
+    → r ≡ hash 4788009 22 (bitsOf (take e a)) → v ≡ pushed 4788009 22 (q % 2) (pushed 4788009 22 (q / 2 % 2) r) → v ≡ firstHash size mode q a
 unfolding firstHash partN hash1 hash poly22 powers
-first-other size mode q e a v h k f = rw (ne-eqb size 40 h) (rw k at f)
+first-other size mode q e a r v h k g f =
+    let w : v ≡ pushed 4788009 22 (q % 2) (pushed 4788009 22 (q / 2 % 2) (hash 4788009 22 (bitsOf (take e a)))) =
+    f ∙ ap (λ (x : ℕ). pushed 4788009 22 (q % 2) (pushed 4788009 22 (q / 2 % 2) x)) g in
+    rw (ne-eqb size 40 h) (rw k at w)
 
 pub second-is : (size mode e : ℕ) (a : List ℕ) (v : ℕ) → e ≡ 2 * frameSize size mode - conceal size mode
     → v ≡ hash 107243 16 (bitsOf (take (length a - e) (drop e a))) → v ≡ secondHash size mode a
 unfolding secondHash partP poly16 powers
-second-is size mode e a v k f =
-    let d = length-drop e a in
-    let l : length (drop e a) ≤ length a - e = omega arith in
-    f ∙ ap (λ (t : List ℕ). hash 107243 16 (bitsOf t)) (take-all (length a - e) (drop e a) l) ∙ ap (λ (x : ℕ). hash 107243 16 (bitsOf (drop x a))) k
+second-is size mode e a v k f = hash-rest 107243 16 a e v f ∙ ap (λ (x : ℕ). hash 107243 16 (bitsOf (drop x a))) k

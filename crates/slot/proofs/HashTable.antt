@@ -41,12 +41,12 @@ shift-low : (p n r : ℕ) → 2 * r < 2 ^ n → pushed p n 0 r ≡ 2 * r
 shift-low p n r h =
     shift-is p n r ∙ ap (λ (x : ℕ). sum (2 * r) (x * p)) (div-eq-of-lt h) ∙ ap (sum (2 * r)) (zero-mul p) ∙ sum-zero (2 * r)
 
-lifted-lt : (p n k r : ℕ) → Degree p n → r < 2 ^ n → lifted p n k r < 2 ^ n
+pub lifted-lt : (p n k r : ℕ) → Degree p n → r < 2 ^ n → lifted p n k r < 2 ^ n
 unfolding lifted
 lifted-lt p n zero r d h = h
 lifted-lt p n (suc k) r d h = pushed-lt p n 0 (lifted p n k r) d (omega arith) (lifted-lt p n k r d h)
 
-lifted-sum : (p n k r s : ℕ) → Degree p n → r < 2 ^ n → s < 2 ^ n → lifted p n k (sum r s) ≡ sum (lifted p n k r) (lifted p n k s)
+pub lifted-sum : (p n k r s : ℕ) → Degree p n → r < 2 ^ n → s < 2 ^ n → lifted p n k (sum r s) ≡ sum (lifted p n k r) (lifted p n k s)
 unfolding lifted
 lifted-sum p n zero r s d h l = refl
 lifted-sum p n (suc k) r s d h l =
@@ -58,7 +58,7 @@ twice x k =
     let e : 2 ^ k * 2 ≡ 2 ^ suc k = omega (arith, two-pow-succ k) in
     mul-comm 2 (x * 2 ^ k) ∙ mul-assoc x (2 ^ k) 2 ∙ ap (λ (y : ℕ). x * y) e
 
-lifted-low : (p n k x : ℕ) → x * 2 ^ k < 2 ^ n → lifted p n k x ≡ x * 2 ^ k
+pub lifted-low : (p n k x : ℕ) → x * 2 ^ k < 2 ^ n → lifted p n k x ≡ x * 2 ^ k
 unfolding lifted
 lifted-low p n zero x h = omega arith
 lifted-low p n (suc k) x h =
@@ -106,7 +106,7 @@ semi-bits c =
     ap₂ sum (ap₂ sum (ap₂ sum (ap (λ (x : ℕ). x * 8) a) (ap (λ (x : ℕ). x * 4) b)) (ap (λ (x : ℕ). x * 2) d)) e in
     f ∙ eqb→eq _ _ (at 16 low-bits tt (c % 16) (omega arith))
 
-higher : (b i m : ℕ) → b * 2 ^ (i + m) ≡ b * 2 ^ i * 2 ^ m
+pub higher : (b i m : ℕ) → b * 2 ^ (i + m) ≡ b * 2 ^ i * 2 ^ m
 higher b i m = ap (λ (y : ℕ). b * y) (pow-add 2 i m) ∙ sym (mul-assoc b (2 ^ i) (2 ^ m))
 
 -- the four bits at the four highest places
@@ -128,12 +128,12 @@ push-at p n j k b r e d h l =
     subst (λ (n : ℕ). Degree p n → r < 2 ^ n → pushed p n b (lifted p n k r) ≡ lifted p n (suc k) (sum r (b * 2 ^ j))) e
     (λ d l. push-lifted p j k b r d h l) d l
 
-none : (p n r : ℕ) → r ≡ lifted p n 0 r
+pub none : (p n r : ℕ) → r ≡ lifted p n 0 r
 unfolding lifted
 none p n r = refl
 
 -- four pushes are one lift
-four : (p n m c r : ℕ) → 4 + m ≡ n → Degree p n → r < 2 ^ n
+pub four : (p n m c r : ℕ) → 4 + m ≡ n → Degree p n → r < 2 ^ n
     → pushed p n (c % 2) (pushed p n (c / 2 % 2) (pushed p n (c / 4 % 2) (pushed p n (c / 8 % 2) r))) ≡ lifted p n 4 (sum r (c % 16 * 2 ^ m))
 four p n m c r e d l =
     let b3 : ℕ = c / 8 % 2 * 2 ^ (3 + m) in
@@ -149,7 +149,7 @@ four p n m c r e d l =
     let s0 = ap (pushed p n (c % 2)) s1 ∙ push-at p n m 3 (c % 2) (sum (sum (sum r b3) b2) b1) (omega arith) d (omega arith) l1 in
     s0 ∙ ap (lifted p n 4) (gather r b3 b2 b1 b0 ∙ ap (sum r) (semi-high c m))
 
-swap-low : (h l c : ℕ) → sum (sum h l) c ≡ sum l (sum h c)
+pub swap-low : (h l c : ℕ) → sum (sum h l) c ≡ sum l (sum h c)
 swap-low h l c = simp xors
 
 mul-lt-pow : (k m : ℕ) → k < 16 → k * 2 ^ m < 16 * 2 ^ m

@@ -10,6 +10,7 @@ pub mod Rule
 pub mod Demand
 mod SizeSteps
 mod HashTable
+mod HashFours
 mod HashSteps
 mod OrderSteps
 mod PlaceSteps

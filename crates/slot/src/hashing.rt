@@ -1,10 +1,11 @@
-// The two hashes (A.20 to A.25), a semi-octet at a time from the highest power down.
+// The two hashes (A.20 to A.25) from the highest power down: four semi-octets at a time, so that the remainder waits for a table
+// once in four; the hash of degree 14, which has not sixteen bits, a semi-octet at a time.
 ghost use mathlib.Core.Path.{_≡_};
 ghost use Prim.Native.Nat.{_+_, _*_, _/_, _%_, _^_, _≤_, _<_};
 ghost use lib.ListN.{length};
 ghost use Rattle.slot.specs.Sizes.{InRange, frameSize};
 ghost use Rattle.slot.specs.Hash.{Degree, pushed, hash, bitsOf};
-ghost use Rattle.slot.specs.Inner.{Stepped};
+ghost use Rattle.slot.specs.Inner.{Stepped, SteppedFour, semiPushed};
 ghost use Rattle.slot.specs.Order.{firstHash, secondHash};
 use crate::geometry;
 
@@ -73,6 +74,109 @@ const ROWS_SIXTEEN: [u32; 16] = [
     0xf065,
 ];
 
+// Entry 16 k + t is what the bits t come to, sixteen powers higher, k + 1 semi-octets above the lowest of the sixteen highest bits.
+const FOURS_TWENTY_TWO: [u32; 48] = [
+    0x00_0000,
+    0x02_ecc2,
+    0x05_d984,
+    0x07_3546,
+    0x0b_b308,
+    0x09_5fca,
+    0x0e_6a8c,
+    0x0c_864e,
+    0x17_6610,
+    0x15_8ad2,
+    0x12_bf94,
+    0x10_5356,
+    0x1c_d518,
+    0x1e_39da,
+    0x19_0c9c,
+    0x1b_e05e,
+    0x00_0000,
+    0x2e_cc20,
+    0x14_9769,
+    0x3a_5b49,
+    0x29_2ed2,
+    0x07_e2f2,
+    0x3d_b9bb,
+    0x13_759b,
+    0x1b_528d,
+    0x35_9ead,
+    0x0f_c5e4,
+    0x21_09c4,
+    0x32_7c5f,
+    0x1c_b07f,
+    0x26_eb36,
+    0x08_2716,
+    0x00_0000,
+    0x36_a51a,
+    0x24_451d,
+    0x12_e007,
+    0x01_8513,
+    0x37_2009,
+    0x25_c00e,
+    0x13_6514,
+    0x03_0a26,
+    0x35_af3c,
+    0x27_4f3b,
+    0x11_ea21,
+    0x02_8f35,
+    0x34_2a2f,
+    0x26_ca28,
+    0x10_6f32,
+];
+
+const FOURS_SIXTEEN: [u32; 48] = [
+    0x0000,
+    0x10af,
+    0x215e,
+    0x31f1,
+    0x42bc,
+    0x5213,
+    0x63e2,
+    0x734d,
+    0x8578,
+    0x95d7,
+    0xa426,
+    0xb489,
+    0xc7c4,
+    0xd76b,
+    0xe69a,
+    0xf635,
+    0x0000,
+    0xa81b,
+    0xf2dd,
+    0x5ac6,
+    0x4751,
+    0xef4a,
+    0xb58c,
+    0x1d97,
+    0x8ea2,
+    0x26b9,
+    0x7c7f,
+    0xd464,
+    0xc9f3,
+    0x61e8,
+    0x3b2e,
+    0x9335,
+    0x0000,
+    0xbfaf,
+    0xddb5,
+    0x621a,
+    0x1981,
+    0xa62e,
+    0xc434,
+    0x7b9b,
+    0x3302,
+    0x8cad,
+    0xeeb7,
+    0x5118,
+    0x2a83,
+    0x952c,
+    0xf736,
+    0x4899,
+];
+
 // The remainder one power higher and with the bit b at power n, reduced by p.
 fn push(p: u32, n: u32, b: u32, r: u32) -> u32
     requires { ⌜ (Degree p n) × (n ≤ 22) × (b < 2) × (r < 2 ^ n) ⌝ }
@@ -105,17 +209,59 @@ fn hash_of(rows: &[u32; 16], p: u32, n: u32, s: &[u8]) -> u32
     r
 }
 
-// The request's bits are those of the lowest powers, so they are pushed last.
-fn with_request(rows: &[u32; 16], p: u32, n: u32, request: u32, s: &[u8]) -> u32
-    requires { ⌜ (Stepped p n (now rows)) × (Degree p n) × (4 ≤ n) × (n ≤ 22) ⌝ }
-    ensures { λ v. ⌜ (v ≡ pushed p n (request % 2) (pushed p n (request / 2 % 2) (hash p n (bitsOf (now (s .entry)))))) × (v < 2 ^ n) ⌝ }
+// Four semi-octets at once, d of the highest powers: they and the sixteen highest bits of the remainder enter as their sum.
+fn push_four(
+    rows: &[u32; 16],
+    fours: &[u32; 48],
+    p: u32,
+    n: u32,
+    a: u32,
+    b: u32,
+    c: u32,
+    d: u32,
+    r: u32,
+) -> u32
+    requires { ⌜ (Stepped p n (now rows)) × (SteppedFour p n (now fours)) × (Degree p n) × (16 ≤ n) × (n ≤ 22) × (r < 2 ^ n) ⌝ }
+    ensures { λ v. ⌜ (v ≡ semiPushed p n a (semiPushed p n b (semiPushed p n c (semiPushed p n d r)))) × (v < 2 ^ n) ⌝ }
 {
-    push(
-        p,
-        n,
-        request % 2,
-        push(p, n, request / 2 % 2, hash_of(rows, p, n, s)),
-    )
+    let w = a % 16 + 16 * (b % 16) + 256 * (c % 16) + 4096 * (d % 16);
+    let t = (r >> (n - 16)) ^ w;
+    let kept = (r % (1 << (n - 16))) * 65536;
+    let upper = fours[(32 + t / 4096) as usize] ^ fours[(16 + t / 256 % 16) as usize];
+    let lower = fours[(t / 16 % 16) as usize] ^ rows[(t % 16) as usize];
+    (kept ^ upper) ^ lower
+}
+
+// The hash of a row of semi-octets, by fours; those of the highest powers that make no four come first.
+fn hash_by_fours(rows: &[u32; 16], fours: &[u32; 48], p: u32, n: u32, s: &[u8]) -> u32
+    requires { ⌜ (Stepped p n (now rows)) × (SteppedFour p n (now fours)) × (Degree p n) × (16 ≤ n) × (n ≤ 22) ⌝ }
+    ensures { λ v. ⌜ (v ≡ hash p n (bitsOf (now (s .entry)))) × (v < 2 ^ n) ⌝ }
+{
+    let mut i = s.len() / 4 * 4;
+    let mut r = hash_of(rows, p, n, &s[i..]);
+    while 0 < i {
+        i = i - 4;
+        r = push_four(
+            rows,
+            fours,
+            p,
+            n,
+            s[i] as u32,
+            s[i + 1] as u32,
+            s[i + 2] as u32,
+            s[i + 3] as u32,
+            r,
+        );
+    }
+    r
+}
+
+// The request's bits are those of the lowest powers, so they are pushed last.
+fn with_request(p: u32, n: u32, request: u32, r: u32) -> u32
+    requires { ⌜ (Degree p n) × (n ≤ 22) × (r < 2 ^ n) ⌝ }
+    ensures { λ v. ⌜ (v ≡ pushed p n (request % 2) (pushed p n (request / 2 % 2) r)) × (v < 2 ^ n) ⌝ }
+{
+    push(p, n, request % 2, push(p, n, request / 2 % 2, r))
 }
 
 pub fn first_hash(size: usize, mode: usize, request: u32, a: &[u8]) -> u32
@@ -124,8 +270,18 @@ pub fn first_hash(size: usize, mode: usize, request: u32, a: &[u8]) -> u32
 {
     let e = 2 * geometry::frame_bytes(size, mode) - geometry::conceal_size(size, mode);
     match size {
-        40 => with_request(&ROWS_FOURTEEN, FOURTEEN, 14, request, &a[..e]),
-        _ => with_request(&ROWS_TWENTY_TWO, TWENTY_TWO, 22, request, &a[..e]),
+        40 => with_request(
+            FOURTEEN,
+            14,
+            request,
+            hash_of(&ROWS_FOURTEEN, FOURTEEN, 14, &a[..e]),
+        ),
+        _ => with_request(
+            TWENTY_TWO,
+            22,
+            request,
+            hash_by_fours(&ROWS_TWENTY_TWO, &FOURS_TWENTY_TWO, TWENTY_TWO, 22, &a[..e]),
+        ),
     }
 }
 
@@ -134,5 +290,5 @@ pub fn second_hash(size: usize, mode: usize, a: &[u8]) -> u32
     ensures { λ v. ⌜ v ≡ secondHash size mode (now (a .entry)) ⌝ }
 {
     let e = 2 * geometry::frame_bytes(size, mode) - geometry::conceal_size(size, mode);
-    hash_of(&ROWS_SIXTEEN, SIXTEEN, 16, &a[e..])
+    hash_by_fours(&ROWS_SIXTEEN, &FOURS_SIXTEEN, SIXTEEN, 16, &a[e..])
 }

@@ -1,6 +1,7 @@
 -- `slot::hashing::second_hash` meets its contract. Assumes nothing.
 use Rattle.slot.proofs.HashSteps.{second-is}
 use Rattle.slot.proofs.HashTable.{rows-sixteen}
+use Rattle.slot.proofs.HashFours.{fours-sixteen}
 use native.Mathlib.Omega.{arith}
 use Prim.Native.Nat.{_*_, _-_}
 use borrow.Author.Needs.{needs}
@@ -19,23 +20,23 @@ conceal-size-requires c κs = search needs
 sub-e : tie.Need-sub-e
 sub-e c = search needs
 
-sub-hash-of : tie.Need-sub-hash-of
-sub-hash-of c = search needs
+sub-hash-by-fours : tie.Need-sub-hash-by-fours
+sub-hash-by-fours c = search needs
 
-part-hash-of-start : tie.Need-part-hash-of-start
-part-hash-of-start c = search needs
+part-hash-by-fours-start : tie.Need-part-hash-by-fours-start
+part-hash-by-fours-start c = search needs
 
-part-hash-of-end : tie.Need-part-hash-of-end
-part-hash-of-end c = search needs
+part-hash-by-fours-end : tie.Need-part-hash-by-fours-end
+part-hash-by-fours-end c = search needs
 
-hash-of-requires : tie.Need-hash-of-requires
-hash-of-requires c κs = (rows-sixteen, search needs, search needs, search needs)
+hash-by-fours-requires : tie.Need-hash-by-fours-requires
+hash-by-fours-requires c κs = (rows-sixteen, fours-sixteen, search needs, search needs, search needs)
 
 returns : tie.Need-returns
 returns c =
-    let a = c .before .before .before .before .before .before .args in
-    let e = 2 * c .before .before .before .before .frame-bytes .result - c .before .before .before .conceal-size .result in
-    second-is (a .size) (a .mode) e (a .a .now) (c .hash-of .result) (omega arith) (c .hash-of .ensures .0)
+    let a = c .before .before .before .before .before .before .before .args in
+    let e = 2 * c .before .before .before .before .before .frame-bytes .result - c .before .before .before .before .conceal-size .result in
+    second-is (a .size) (a .mode) e (a .a .now) (c .hash-by-fours .result) (omega arith) (c .hash-by-fours .ensures .0)
 
 pub second-hash-spec : {M : Type 1} → statement M
 second-hash-spec =
@@ -45,8 +46,8 @@ second-hash-spec =
     mul-e
     conceal-size-requires
     sub-e
-    sub-hash-of
-    part-hash-of-start
-    part-hash-of-end
-    hash-of-requires
+    sub-hash-by-fours
+    part-hash-by-fours-start
+    part-hash-by-fours-end
+    hash-by-fours-requires
     returns)

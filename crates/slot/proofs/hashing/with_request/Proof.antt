@@ -3,9 +3,6 @@ use borrow.Author.Needs.{needs}
 use Rattle.slot.proofs.hashing.with_request.Statement.{statement}
 use Rattle.slot.proofs.hashing.with_request.Tie as tie
 
-hash-of-requires : tie.Need-hash-of-requires
-hash-of-requires c κs = search needs
-
 push-requires : tie.Need-push-requires
 push-requires c κs = search needs
 
@@ -16,4 +13,4 @@ returns : tie.Need-returns
 returns c = (cc, c .push2 .ensures .1)
 
 pub with-request-spec : {M : Type 1} → statement M
-with-request-spec = tie.close (tie.spec hash-of-requires push-requires push-requires-2 returns)
+with-request-spec = tie.close (tie.spec push-requires push-requires-2 returns)
