@@ -186,7 +186,7 @@ fn read_spectral(
 {
     let look = coder_tables::lookup();
     let cum = coder_tables::spectrum();
-    let mut lines = [0i32; 400];
+    let mut x = [0i32; 400];
     let mut levels = [0u8; 200];
     let lsb = bits::wide(h.lsb_mode);
     let last = h.last_line as usize;
@@ -195,17 +195,7 @@ fn read_spectral(
         offset: settings::rate_offset(r.index, frame.len()),
         half: r.lines / 2,
     };
-    let got = pairs::read_pairs(
-        frame,
-        &look,
-        &cum,
-        o,
-        last / 2,
-        c,
-        p,
-        &mut lines,
-        &mut levels,
-    );
+    let got = pairs::read_pairs(frame, &look, &cum, o, last / 2, c, p, &mut x, &mut levels);
     let PairsRead::Value(d, q) = got else {
         return SpectralRead::Cause(pairs::pairs_cause(got));
     };
@@ -217,7 +207,7 @@ fn read_spectral(
         frame,
         lsb,
         last,
-        &mut lines,
+        &mut x,
         &levels,
         q,
         left,
