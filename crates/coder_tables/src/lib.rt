@@ -1,15 +1,16 @@
-// The arithmetic coder's tables of clauses 5.9.4 and 5.9.6, for whoever reads a frame. The code stands over nothing, its proofs over crate `laws`.
-// Each function asks nothing and promises the whole table of specs/Tables.antt, its rows one after the other; proofs/Rules.antt proves of these
-// once that every row rises from 0 to exactly 1,024 and that every lookup names one of the 64 rows.
+// The arithmetic coder's tables of clauses 5.9.4 and 5.9.6, for whoever reads a frame. The code stands over nothing, its definitions and proofs over
+// crate `laws`. Each function asks nothing and promises the whole table of specs/Tables.antt, its rows one after the other, the lookups in the order of
+// specs/Layout.antt; proofs/Rules.antt proves of these once that every row rises from 0 to exactly 1,024 and that every lookup names one of the 64 rows.
 // make_tables makes the code's numbers and the definitions' from tables.txt.
 ghost use mathlib.Core.Path.{_≡_};
+ghost use Rattle.coder_tables.specs.Layout.{byContext};
 ghost use Rattle.coder_tables.specs.Tables.{lookTable, spectrumTable, orderTable, coefficientTable};
 
 mod constants;
 
-// The row of `spectrum` for each context.
+// The row of `spectrum` for each context, its four levels side by side.
 pub fn lookup() -> [u8; 4096]
-    ensures { λ r. ⌜ r ≡ lookTable ⌝ }
+    ensures { λ r. ⌜ r ≡ byContext lookTable ⌝ }
 {
     constants::LOOKUP
 }

@@ -11,7 +11,9 @@ use lib.Dec.{ltb, leb, eqb}
 use lib.ListN.{length, getD}
 use lib.Pow.{pow-mono, shl-exact}
 use borrow.Author.Tests.{ltb-true, leb-true, leb-false, lt-ltb, le-ltb, le-leb, lt-leb, eq-eqb, ne-eqb}
+use Rattle.coder_tables.specs.Layout.{byLevel}
 use Rattle.coder_tables.specs.Rows.{Row, SpectrumTables}
+use Rattle.coder_tables.proofs.LayoutRules.{by-level-at}
 use Rattle.frame.specs.Read.{Read, value, cause}
 use Rattle.frame.specs.Bits.{readBit}
 use Rattle.frame.specs.Symbol.{symbolOf}
@@ -95,8 +97,11 @@ capped-low level h = rw (lt-ltb level 3 h)
 pub capped-high : (level : ℕ) → 3 ≤ level → 3 ≡ capped level
 capped-high level h = rw (le-ltb level 3 h)
 
-pub row-is : (look : List ℕ) (base level l r : ℕ) → l ≡ capped level → r ≡ getD look (base + 1024 * l) 0 → r * 18 ≡ rowOf look base level
-row-is look base level l r e f = ap (λ (k : ℕ). k * 18) (f ∙ ap (λ (k : ℕ). getD look (base + 1024 * k) 0) e)
+-- the code's table has the four levels of a context side by side
+pub row-is : (look : List ℕ) (base level l r : ℕ) → base < 1024 → l < 4 → l ≡ capped level → r ≡ getD look (4 * base + l) 0
+    → r * 18 ≡ rowOf (byLevel look) base level
+row-is look base level l r h i e f =
+    ap (λ (k : ℕ). k * 18) (f ∙ sym (by-level-at look base l h i) ∙ ap (λ (k : ℕ). getD (byLevel look) (base + 1024 * k) 0) e)
 
 pub row-at : (look cum : List ℕ) (base level r : ℕ) → SpectrumTables look cum → base < 1024 → r ≡ rowOf look base level → Row cum r 16
 row-at look cum base level r t h e =

@@ -8,8 +8,10 @@ use lib.ListN.{length, take, getD, replicate}
 use lib.IntN.{ℤ, pos}
 use borrow.Author.Tests.{eq-eqb, ne-eqb, le-leb, lt-leb}
 use Rattle.coder_tables.specs.Tables.{lookTable, spectrumTable, orderTable, coefficientTable}
+use Rattle.coder_tables.specs.Layout.{byContext, byLevel}
 use Rattle.coder_tables.specs.Rows.{SpectrumTables}
-use Rattle.coder_tables.proofs.Rules.{spectrum-tables, order-row, coefficient-row}
+use Rattle.coder_tables.proofs.Rules.{look-length, spectrum-tables, order-row, coefficient-row}
+use Rattle.coder_tables.proofs.LayoutRules.{length-by-context, by-level-back}
 use Rattle.frame.specs.Read.{Read, value, cause}
 use Rattle.frame.specs.Settings.{rateOf, rateOffset, weighting}
 use Rattle.frame.specs.Side.{sideOf, sideGiven, sideCause}
@@ -41,8 +43,15 @@ use Rattle.frame.specs.declared.Answer.the-variants as answer
 
 -- ---- the tables
 
-pub tables : (look cum : List ℕ) → look ≡ lookTable → cum ≡ spectrumTable → SpectrumTables look cum
-tables look cum e f = rw (e, f) spectrum-tables
+-- the code's lookups in the standard's order are the standard's
+standard : (look : List ℕ) → look ≡ byContext lookTable → byLevel look ≡ lookTable
+standard look e = ap byLevel e ∙ by-level-back lookTable look-length
+
+pub tables : (look cum : List ℕ) → look ≡ byContext lookTable → cum ≡ spectrumTable → SpectrumTables (byLevel look) cum
+tables look cum e f = rw (standard look e, f) spectrum-tables
+
+pub lookups : (look : List ℕ) → look ≡ byContext lookTable → length look ≡ 4096
+lookups look e = ap length e ∙ length-by-context lookTable
 
 pub tns-tables : (orders rows : List ℕ) → orders ≡ orderTable → rows ≡ coefficientTable → TnsTables orders rows
 tns-tables orders rows e f = rw (e, f) (record { order = order-row; coefficient = coefficient-row })
@@ -73,11 +82,11 @@ pairsAt s r h c p =
     pairsOf s lookTable spectrumTable (pairSetting r (length s) (h .«lsb_mode»)) (h .«last_line» / 2) 0 0 c p (replicate 400 (pos 0)) (replicate 200 0)
 
 pub pairs-at : (s : List ℕ) (r : Setting) (h : Head) (c : Coder) (p : ℕ) (look cum : List ℕ) (lsb offset n : ℕ) (x : Read Streams Spectrum)
-    → look ≡ lookTable → cum ≡ spectrumTable → lsb ≡ h .«lsb_mode» → offset ≡ rateOffset (r .index) (length s) → n ≡ h .«last_line» / 2
-    → x ≡ pairsOf s look cum (record { lsb = lsb; offset = offset; half = r .lines / 2 }) n 0 0 c p (replicate 400 (pos 0)) (replicate 200 0)
+    → look ≡ byContext lookTable → cum ≡ spectrumTable → lsb ≡ h .«lsb_mode» → offset ≡ rateOffset (r .index) (length s) → n ≡ h .«last_line» / 2
+    → x ≡ pairsOf s (byLevel look) cum (record { lsb = lsb; offset = offset; half = r .lines / 2 }) n 0 0 c p (replicate 400 (pos 0)) (replicate 200 0)
     → pairsAt s r h c p ≡ x
 unfolding pairsAt
-pairs-at s r h c p look cum lsb offset n x e f l o m q = sym (rw (e, f, l, o, m) at q)
+pairs-at s r h c p look cum lsb offset n x e f l o m q = sym (rw (standard look e, f, l, o, m) at q)
 
 pub spectral-pairs : (s : List ℕ) (r : Setting) (h : Head) (c : Coder) (p k : ℕ) → pairsAt s r h c p ≡ cause k → spectralFrom s r h c p ≡ cause k
 unfolding spectralFrom pairsAt

@@ -1,8 +1,10 @@
 // The spectral data (5.4.2.7): pairs of lines, each by escapes and a last symbol, into lent lines and levels. Each function equals its
-// definition in specs/Pairs.antt; specs/Sound.antt has the bounds that one step gives the next.
+// definition in specs/Pairs.antt; specs/Sound.antt has the bounds that one step gives the next. `look` has the lookups context after context,
+// `byLevel` is the standard's order of them.
 ghost use mathlib.Core.Path.{_≡_};
 ghost use Prim.Native.Nat.{_+_, _*_, _^_, _≤_, _<_, _/_, _%_};
 ghost use lib.ListN.{length};
+ghost use Rattle.coder_tables.specs.Layout.{byLevel};
 ghost use Rattle.coder_tables.specs.Rows.{Row, SpectrumTables};
 ghost use Rattle.frame.specs.Settings.{Sized};
 ghost use Rattle.frame.specs.Bits.{bitsGiven};
@@ -109,9 +111,9 @@ fn cap(level: usize) -> usize
 // Where the row of a context and a level starts.
 fn row_of(look: &[u8], base: usize, level: usize) -> usize
     requires { ⌜ (length (now look) ≡ 4096) × (base < 1024) ⌝ }
-    ensures { λ r. ⌜ (r ≡ rowOf (now (look .entry)) base level) × (r < 65536) ⌝ }
+    ensures { λ r. ⌜ (r ≡ rowOf (byLevel (now (look .entry))) base level) × (r < 65536) ⌝ }
 {
-    let at = base + 1024 * cap(level);
+    let at = 4 * base + cap(level);
     wide(look[at]) * 18
 }
 
@@ -153,8 +155,8 @@ fn read_last(
     first: Coder,
     start: usize,
 ) -> LastRead
-    requires { ⌜ Sized (now s) × SpectrumTables (now look) (now cum) × (lsb < 2) × (base < 1024) × Sound (now s) first × (first .taken < 32768) ⌝ }
-    ensures { λ r. ⌜ lastGiven r ≡ lastOf (now (s .entry)) (now (look .entry)) (now (cum .entry)) lsb base 14 0 0 0 first start ⌝ }
+    requires { ⌜ Sized (now s) × SpectrumTables (byLevel (now look)) (now cum) × (lsb < 2) × (base < 1024) × Sound (now s) first × (first .taken < 32768) × (length (now look) ≡ 4096) ⌝ }
+    ensures { λ r. ⌜ lastGiven r ≡ lastOf (now (s .entry)) (byLevel (now (look .entry))) (now (cum .entry)) lsb base 14 0 0 0 first start ⌝ }
     ensures { λ r. ⌜ GoodLast (now (s .entry)) lsb first r ⌝ }
 {
     let mut c = first;
@@ -225,8 +227,8 @@ fn read_pair(
     c: Coder,
     p: usize,
 ) -> PairRead
-    requires { ⌜ Sized (now s) × SpectrumTables (now look) (now cum) × (lsb < 2) × (base < 1024) × Sound (now s) c × (c .taken < 32768) ⌝ }
-    ensures { λ r. ⌜ pairGiven r ≡ pairOf (now (s .entry)) (now (look .entry)) (now (cum .entry)) lsb base context c p ⌝ }
+    requires { ⌜ Sized (now s) × SpectrumTables (byLevel (now look)) (now cum) × (lsb < 2) × (base < 1024) × Sound (now s) c × (c .taken < 32768) × (length (now look) ≡ 4096) ⌝ }
+    ensures { λ r. ⌜ pairGiven r ≡ pairOf (now (s .entry)) (byLevel (now (look .entry))) (now (cum .entry)) lsb base context c p ⌝ }
     ensures { λ r. ⌜ GoodPair (now (s .entry)) lsb c r ⌝ }
 {
     let got = read_last(s, look, cum, lsb, base, c, p);
@@ -307,8 +309,8 @@ pub fn read_pairs(
     lines: &mut [i32],
     levels: &mut [u8],
 ) -> PairsRead
-    requires { ⌜ Sized (now s) × SpectrumTables (now look) (now cum) × (o .lsb < 2) × (o .offset ≤ 512) × (n ≤ 200) × Sound (now s) first × (first .taken ≤ 18) × (start ≤ 8 * length (now s)) × (length (now lines) ≡ 400) × (length (now levels) ≡ 200) × Roomy (o .lsb) (now lines) (now levels) ⌝ }
-    ensures { λ r. ⌜ pairsGiven r (now (lines .exit)) (now (levels .exit)) ≡ pairsOf (now (s .entry)) (now (look .entry)) (now (cum .entry)) o n 0 0 first start (now (lines .entry)) (now (levels .entry)) ⌝ }
+    requires { ⌜ Sized (now s) × SpectrumTables (byLevel (now look)) (now cum) × (o .lsb < 2) × (o .offset ≤ 512) × (n ≤ 200) × Sound (now s) first × (first .taken ≤ 18) × (start ≤ 8 * length (now s)) × (length (now lines) ≡ 400) × (length (now levels) ≡ 200) × Roomy (o .lsb) (now lines) (now levels) × (length (now look) ≡ 4096) ⌝ }
+    ensures { λ r. ⌜ pairsGiven r (now (lines .exit)) (now (levels .exit)) ≡ pairsOf (now (s .entry)) (byLevel (now (look .entry))) (now (cum .entry)) o n 0 0 first start (now (lines .entry)) (now (levels .entry)) ⌝ }
     ensures { λ r. ⌜ GoodPairs (now (s .entry)) (o .lsb) n first r (now (lines .exit)) (now (levels .exit)) ⌝ }
 {
     let lsb = o.lsb;

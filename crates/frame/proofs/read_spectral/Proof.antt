@@ -10,7 +10,7 @@ use Rattle.frame.specs.Pairs.{Streams, Spectrum, pairsGiven}
 use Rattle.frame.specs.Residual.{leftGiven}
 use Rattle.frame.specs.declared.pairs.PairsRead.{PairsRead}
 use Rattle.frame.specs.declared.residual.Left.{Left}
-use Rattle.frame.proofs.WholeFrame.{tables, roomy-zeros, pairsAt, pairs-at, pairs-refused, left-refused, spectral-value, spectral-is}
+use Rattle.frame.proofs.WholeFrame.{tables, lookups, roomy-zeros, pairsAt, pairs-at, pairs-refused, left-refused, spectral-value, spectral-is}
 
 -- the places that several needs look back to
 abbrev entry : tie.After-rate-offset → tie.Start
@@ -54,9 +54,9 @@ read-pairs-requires c κs =
     let o = c .before .before .before .before .before in
     let z = entry o .pre in
     let w = o .before .before .wide .ensures .0 in
-    let t = tables _ _ (o .before .before .before .before .lookup .ensures) (o .before .before .before .spectrum .ensures) in (
+    let l = o .before .before .before .before .lookup .ensures in (
       z .1,
-      t,
+      tables _ _ l (o .before .before .before .spectrum .ensures),
       omega (arith, w, z .4),
       o .rate-offset .ensures .1,
       omega (arith, z .0 .lines, z .2),
@@ -66,6 +66,7 @@ read-pairs-requires c κs =
       refl,
       refl,
       roomy-zeros _ 400 200,
+      lookups _ l,
     )
 
 enum-known-got : tie.Need-enum-known-got

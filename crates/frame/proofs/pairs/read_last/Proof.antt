@@ -5,6 +5,7 @@ use mathlib.Core.Path.{_≡_, refl, sym, ap, _∙_}
 use Prim.Native.Nat.{_+_, _-_, _≤_}
 use native.Mathlib.Omega.{arith}
 use denote.Ref.{now}
+use Rattle.coder_tables.specs.Layout.{byLevel}
 use Rattle.frame.specs.Read.{value, cause}
 use Rattle.frame.specs.Symbol.{symbolOf, symbolGiven}
 use Rattle.frame.specs.Pairs.{rowOf, lastOf}
@@ -15,7 +16,7 @@ use borrow.Author.Needs.{needs}
 abbrev Inv-loop : tie.InvT-loop
 Inv-loop s look cum lsb base start c₀ p₀ x₀ y₀ level₀ c p x y level =
     (level ≤ 14) × Built lsb level x × Built lsb level y × (c .taken ≤ c₀ .taken + level) × Sound s c
-    × (lastOf s look cum lsb base (14 - level) level x y c p ≡ lastOf s look cum lsb base 14 0 0 0 c₀ p₀)
+    × (lastOf s (byLevel look) cum lsb base (14 - level) level x y c p ≡ lastOf s (byLevel look) cum lsb base 14 0 0 0 c₀ p₀)
 
 abbrev μ-loop : tie.MeasureT-loop
 μ-loop s look cum lsb base start c₀ p₀ x₀ y₀ level₀ c p x y level = 14 - level
@@ -31,7 +32,7 @@ loop-holds c =
 row-of-requires : tie.Need-row-of-requires Inv-loop μ-loop
 row-of-requires c κs =
     let s = begin c in
-    (s .pre .1 .looks, s .pre .3)
+    (s .pre .6, s .pre .3)
 
 decode-requires : tie.Need-decode-requires Inv-loop μ-loop
 decode-requires c κs =
@@ -39,7 +40,7 @@ decode-requires c κs =
     let s = begin (c .before) in
     let a = s .args in (
       s .pre .0,
-      row-at (now (a .look)) (now (a .cum)) (a .base) (l .level) (c .row-of .result) (s .pre .1) (s .pre .3) (c .row-of .ensures .0),
+      row-at (byLevel (now (a .look))) (now (a .cum)) (a .base) (l .level) (c .row-of .result) (s .pre .1) (s .pre .3) (c .row-of .ensures .0),
       c .row-of .ensures .1,
       omega arith,
       l .inv .4,
@@ -57,7 +58,8 @@ symbol-cause-requires c κs = search needs
 
 -- the definition's symbol is the one decoded
 found : (d : tie.After-decode Inv-loop μ-loop) → let s = begin (d .before .before) in let l = d .before .before .before .loop in
-    symbolGiven (d .decode .result) ≡ symbolOf (now (s .args .s)) (now (s .args .cum)) (rowOf (now (s .args .look)) (s .args .base) (l .level)) 16 (l .c)
+    symbolGiven (d .decode .result)
+    ≡ symbolOf (now (s .args .s)) (now (s .args .cum)) (rowOf (byLevel (now (s .args .look))) (s .args .base) (l .level)) 16 (l .c)
 found d = rw (d .before .row-of .ensures .0) at (d .decode .ensures .0)
 
 returns : tie.Need-returns Inv-loop μ-loop
@@ -70,7 +72,7 @@ returns c =
     let k = rw e at (c .symbol-cause .ensures) in
     let f = rw e at (found d) in
     let g = rw e at (d .decode .ensures .1) in (
-      ap cause k ∙ sym (last-stop (now (a .s)) (now (a .look)) (now (a .cum)) (a .lsb) (a .base) (l .level) (l .x) (l .y) (l .c) (l .p) _
+      ap cause k ∙ sym (last-stop (now (a .s)) (byLevel (now (a .look))) (now (a .cum)) (a .lsb) (a .base) (l .level) (l .x) (l .y) (l .c) (l .p) _
           (i .loop-test .taken) (sym f)) ∙ l .inv .5,
       (omega (arith, k, g .0), omega (arith, k, g .1)),
     )
@@ -78,7 +80,7 @@ returns c =
 -- the symbol and what is known of it
 known : (k : tie.After-known-told Inv-loop μ-loop) → let d = k .before .before .before in let s = begin (d .before .before) in
     let l = d .before .before .before .loop in let v = k .before .got .given .0 in
-    symbolOf (now (s .args .s)) (now (s .args .cum)) (rowOf (now (s .args .look)) (s .args .base) (l .level)) 16 (l .c) ≡ value (v .0) (v .1 .0)
+    symbolOf (now (s .args .s)) (now (s .args .cum)) (rowOf (byLevel (now (s .args .look))) (s .args .base) (l .level)) 16 (l .c) ≡ value (v .0) (v .1 .0)
 known k = sym (rw (k .before .got .given .1) at (found (k .before .before .before)))
 
 good : (k : tie.After-known-told Inv-loop μ-loop) → let d = k .before .before .before in let s = begin (d .before .before) in
@@ -93,7 +95,7 @@ returns-2 c =
     let l = i .before .loop in
     let a = begin i .args in
     let g = good k in (
-      sym (last-found (now (a .s)) (now (a .look)) (now (a .cum)) (a .lsb) (a .base) (l .level) (l .x) (l .y) (l .c) (l .p) _ _
+      sym (last-found (now (a .s)) (byLevel (now (a .look))) (now (a .cum)) (a .lsb) (a .base) (l .level) (l .x) (l .y) (l .c) (l .p) _ _
           (i .loop-test .taken) (known k) (c .if1 .taken)) ∙ l .inv .5,
       (c .if1 .taken, omega (arith, i .loop-test .taken), l .inv .1, l .inv .2, omega (arith, g .1, l .inv .3, i .loop-test .taken), g .2),
     )
@@ -125,7 +127,7 @@ returns-3 c =
     let n = rw e at (c .plane-cause .ensures) in
     let f = rw e at (r .read-plane .ensures .0) in
     let g = rw e at (r .read-plane .ensures .1) in (
-      ap cause n ∙ sym (last-out (now (a .s)) (now (a .look)) (now (a .cum)) (a .lsb) (a .base) (l .level) (l .x) (l .y) (l .c) (l .p) _ _ _
+      ap cause n ∙ sym (last-out (now (a .s)) (byLevel (now (a .look))) (now (a .cum)) (a .lsb) (a .base) (l .level) (l .x) (l .y) (l .c) (l .p) _ _ _
           (i .loop-test .taken) (known k) (r .before .if1 .left) (sym f)) ∙ l .inv .5,
       (omega (arith, n, g), omega (arith, n, g)),
     )
@@ -152,7 +154,7 @@ loop-again c =
       b .1,
       omega (arith, g .1, l .inv .3),
       g .2,
-      last-more (now (a .s)) (now (a .look)) (now (a .cum)) (a .lsb) (a .base) (l .level) (l .x) (l .y) (l .c) (l .p) _ _ _ _ _
+      last-more (now (a .s)) (byLevel (now (a .look))) (now (a .cum)) (a .lsb) (a .base) (l .level) (l .x) (l .y) (l .c) (l .p) _ _ _ _ _
           (i .loop-test .taken) (known k) (r .before .if1 .left) (sym f) ∙ l .inv .5,
     )
 
@@ -160,7 +162,7 @@ returns-4 : tie.Need-returns-4 Inv-loop μ-loop
 returns-4 c =
     let l = c .before .loop in
     let a = c .before .before .before .before .before .args in (
-      sym (last-none (now (a .s)) (now (a .look)) (now (a .cum)) (a .lsb) (a .base) (l .level) (l .x) (l .y) (l .c) (l .p) (c .loop-test .left))
+      sym (last-none (now (a .s)) (byLevel (now (a .look))) (now (a .cum)) (a .lsb) (a .base) (l .level) (l .x) (l .y) (l .c) (l .p) (c .loop-test .left))
           ∙ l .inv .5,
       (omega arith, omega arith),
     )

@@ -6,6 +6,7 @@ use mathlib.Core.Path.{_≡_, sym, ap, _∙_}
 use Prim.Native.Nat.{_+_, _/_, _%_, _≤_, _<_}
 use native.Mathlib.Omega.{arith}
 use denote.Ref.{now}
+use Rattle.coder_tables.specs.Layout.{byLevel}
 use Rattle.frame.specs.Read.{value, cause}
 use Rattle.frame.specs.Pairs.{lastOf, signOf, signedOf, pairOf}
 use Rattle.frame.specs.Sound.{Sound, Built}
@@ -31,7 +32,7 @@ returns c =
     let k = rw e at (c .last-cause .ensures) in
     let f = rw e at (d .read-last .ensures .0) in
     let g = rw e at (d .read-last .ensures .1) in (
-      ap cause k ∙ sym (pair-stop (now (a .s)) (now (a .look)) (now (a .cum)) (a .lsb) (a .base) (a .context) (a .c) (a .p) _ (sym f)),
+      ap cause k ∙ sym (pair-stop (now (a .s)) (byLevel (now (a .look))) (now (a .cum)) (a .lsb) (a .base) (a .context) (a .c) (a .p) _ (sym f)),
       (omega (arith, k, g .0), omega (arith, k, g .1)),
     )
 
@@ -40,7 +41,8 @@ begin k = k .before .before .before .before .before .before .before
 
 -- the last symbol, and what is known of it
 last : (k : tie.After-known-told) → let a = begin k .args in let v = k .before .got .given .0 in
-    lastOf (now (a .s)) (now (a .look)) (now (a .cum)) (a .lsb) (a .base) 14 0 0 0 (a .c) (a .p) ≡ value (v .0) (record { coder = v .1 .0; side = v .1 .1 .0 })
+    lastOf (now (a .s)) (byLevel (now (a .look))) (now (a .cum)) (a .lsb) (a .base) 14 0 0 0 (a .c) (a .p)
+    ≡ value (v .0) (record { coder = v .1 .0; side = v .1 .1 .0 })
 last k = sym (rw (k .before .got .given .1) at (k .before .before .before .read-last .ensures .0))
 
 good : (k : tie.After-known-told) → let a = begin k .args in let v = k .before .got .given .0 in
@@ -68,12 +70,12 @@ cause-of-requires c κs = search needs
 
 -- the whole pair is what its last symbol leaves
 rest : (b : tie.After-above2) → let k = b .before .before in let a = begin k .args in let v = k .before .got .given .0 in
-    pairOf (now (a .s)) (now (a .look)) (now (a .cum)) (a .lsb) (a .base) (a .context) (a .c) (a .p)
+    pairOf (now (a .s)) (byLevel (now (a .look))) (now (a .cum)) (a .lsb) (a .base) (a .context) (a .c) (a .p)
     ≡ signedOf (now (a .s)) (a .context) (b .before .above .result) (b .above2 .result) (v .0) (v .1 .0) (v .1 .1 .0)
 rest b =
     let k = b .before .before in
     let a = begin k .args in
-    pair-signed (now (a .s)) (now (a .look)) (now (a .cum)) (a .lsb) (a .base) (a .context) (a .c) (a .p) _ _ _ _ _ (last k)
+    pair-signed (now (a .s)) (byLevel (now (a .look))) (now (a .cum)) (a .lsb) (a .base) (a .context) (a .c) (a .p) _ _ _ _ _ (last k)
     (b .before .above .ensures) (b .above2 .ensures)
 
 returns-2 : tie.Need-returns-2

@@ -6,6 +6,7 @@ use Prim.Native.Nat.{ℕ, _+_, _-_, _*_, _≤_, _<_}
 use native.Mathlib.Omega.{arith}
 use lib.ListN.{length, length-set}
 use denote.Ref.{now}
+use Rattle.coder_tables.specs.Layout.{byLevel}
 use Rattle.frame.specs.Read.{value, cause}
 use Rattle.frame.specs.Pairs.{pairOf, pairGiven, baseOf, pairsOf}
 use Rattle.frame.specs.Sound.{Sound, Room, Roomy}
@@ -15,7 +16,8 @@ use borrow.Author.Needs.{needs}
 abbrev Inv-loop : tie.InvT-loop
 Inv-loop s look cum o n start lines₀ levels₀ lsb c₀ p₀ context₀ k₀ lines levels c p context k =
     (k ≤ n) × (length lines ≡ 400) × (length levels ≡ 200) × Sound s c × (context < 256) × (p ≤ 8 * length s + 23) × (c .taken ≤ c₀ .taken + 14 * k)
-    × Roomy (o .lsb) lines levels × (pairsOf s look cum o (n - k) k context c p lines levels ≡ pairsOf s look cum o n 0 0 c₀ p₀ lines₀ levels₀)
+    × Roomy (o .lsb) lines levels
+    × (pairsOf s (byLevel look) cum o (n - k) k context c p lines levels ≡ pairsOf s (byLevel look) cum o n 0 0 c₀ p₀ lines₀ levels₀)
 
 abbrev μ-loop : tie.MeasureT-loop
 μ-loop s look cum o n start lines₀ levels₀ lsb c₀ p₀ context₀ k₀ lines levels c p context k = n - k
@@ -37,7 +39,7 @@ loop-holds c =
       omega (arith, h .7),
       omega arith,
       h .10,
-      ap (λ (j : ℕ). pairsOf (now (a .s)) (now (a .look)) (now (a .cum)) (a .o) j 0 0 (a .first) (a .start) (now (a .lines)) (now (a .levels))) z,
+      ap (λ (j : ℕ). pairsOf (now (a .s)) (byLevel (now (a .look))) (now (a .cum)) (a .o) j 0 0 (a .first) (a .start) (now (a .lines)) (now (a .levels))) z,
     )
 
 mul-base-of : tie.Need-mul-base-of Inv-loop μ-loop
@@ -67,7 +69,8 @@ same-length-2 c = search needs
 -- the definition's pair is the one read
 found : (r : tie.After-read-pair Inv-loop μ-loop) → let a = begin (r .before .before) .args in let l = r .before .before .before .loop in
     pairGiven (r .read-pair .result)
-    ≡ pairOf (now (a .s)) (now (a .look)) (now (a .cum)) (a .o .lsb) (baseOf (l .context) (a .o .offset) (a .o .half) (2 * l .k)) (l .context) (l .c) (l .p)
+    ≡ pairOf (now (a .s)) (byLevel (now (a .look))) (now (a .cum)) (a .o .lsb) (baseOf (l .context) (a .o .offset) (a .o .half) (2 * l .k))
+    (l .context) (l .c) (l .p)
 found r = rw (r .before .base-of .ensures .0) at (r .read-pair .ensures .0)
 
 returns : tie.Need-returns Inv-loop μ-loop
@@ -80,15 +83,16 @@ returns c =
     let k = rw e at (c .pair-cause .ensures) in
     let f = rw e at (found r) in
     let g = rw e at (r .read-pair .ensures .1) in (
-      ap cause k ∙ sym (pairs-stop (now (a .s)) (now (a .look)) (now (a .cum)) (a .o) (a .n) (l .k) (l .context) (l .c) (l .p) (l .lines) (l .levels) _
-          (i .loop-test .taken) (sym f)) ∙ l .inv .8,
+      ap cause k ∙ sym (pairs-stop (now (a .s)) (byLevel (now (a .look))) (now (a .cum)) (a .o) (a .n) (l .k) (l .context) (l .c) (l .p) (l .lines)
+          (l .levels) _ (i .loop-test .taken) (sym f)) ∙ l .inv .8,
       (omega (arith, k, g .0), omega (arith, k, g .1)),
     )
 
 -- the pair, and what is known of it
 known : (k : tie.After-known-told Inv-loop μ-loop) → let r = k .before .before .before in let a = begin (r .before .before) .args in
     let l = r .before .before .before .loop in let v = k .before .got .given .0 in
-    pairOf (now (a .s)) (now (a .look)) (now (a .cum)) (a .o .lsb) (baseOf (l .context) (a .o .offset) (a .o .half) (2 * l .k)) (l .context) (l .c) (l .p)
+    pairOf (now (a .s)) (byLevel (now (a .look))) (now (a .cum)) (a .o .lsb) (baseOf (l .context) (a .o .offset) (a .o .half) (2 * l .k))
+    (l .context) (l .c) (l .p)
     ≡ value (v .0) (record { coder = v .1 .0; side = v .1 .1 .0 })
 known k = sym (rw (k .before .got .given .1) at (found (k .before .before .before)))
 
@@ -141,7 +145,7 @@ loop-again c =
       g .5,
       omega (arith, g .4, l .inv .6),
       roomy-store (a .o .lsb) (l .lines) (l .levels) (l .k) q (l .inv .7) (inside k) (l .inv .1) (l .inv .2) (g .0) (g .1) (t .last .0) (t .ensures),
-      pairs-more (now (a .s)) (now (a .look)) (now (a .cum)) (a .o) (a .n) (l .k) (l .context) (l .c) (l .p) (l .lines) (l .levels)
+      pairs-more (now (a .s)) (byLevel (now (a .look))) (now (a .cum)) (a .o) (a .n) (l .k) (l .context) (l .c) (l .p) (l .lines) (l .levels)
           q _ _ (t .last .0) (i .loop-test .taken) (known k) (t .ensures) ∙ l .inv .8,
     )
 
@@ -155,7 +159,7 @@ returns-2 : tie.Need-returns-2 Inv-loop μ-loop
 returns-2 c =
     let l = c .before .loop in
     let a = c .before .before .before .before .before .before .args in (
-      sym (pairs-done (now (a .s)) (now (a .look)) (now (a .cum)) (a .o) (a .n) (l .k) (l .context) (l .c) (l .p) (l .lines) (l .levels)
+      sym (pairs-done (now (a .s)) (byLevel (now (a .look))) (now (a .cum)) (a .o) (a .n) (l .k) (l .context) (l .c) (l .p) (l .lines) (l .levels)
           (c .loop-test .left)) ∙ l .inv .8,
       (omega (arith, l .inv .6, l .inv .0), l .inv .5, l .inv .3, l .inv .7),
     )

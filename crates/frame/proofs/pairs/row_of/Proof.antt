@@ -6,11 +6,11 @@ use native.Mathlib.Omega.{arith}
 use denote.Ref.{now}
 use Rattle.frame.proofs.Escaping.{row-is}
 
-cap-requires : tie.Need-cap-requires
-cap-requires c κs = search needs
-
 mul-at : tie.Need-mul-at
 mul-at c = search needs
+
+cap-requires : tie.Need-cap-requires
+cap-requires c κs = search needs
 
 add-at : tie.Need-add-at
 add-at c = search needs
@@ -26,11 +26,12 @@ mul-result c = search needs
 
 returns : tie.Need-returns
 returns c =
-    let a = c .before .before .before .before .args in
+    let s = c .before .before .before .before in
+    let a = s .args in
     let l = c .before .before .cap in
-    (row-is (now (a .look)) (a .base) (a .level) (l .result) (c .wide .result) (l .ensures .0) (c .wide .ensures .0), omega arith)
+    (row-is (now (a .look)) (a .base) (a .level) (l .result) (c .wide .result) (s .pre .1) (omega arith) (l .ensures .0) (c .wide .ensures .0), omega arith)
 
 pub row-of-spec : {M : Type 1} → statement M
 row-of-spec =
     tie.close
-    (tie.spec cap-requires mul-at add-at shared-slice-read-wide wide-requires mul-result returns)
+    (tie.spec mul-at cap-requires add-at shared-slice-read-wide wide-requires mul-result returns)
