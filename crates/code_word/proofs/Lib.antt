@@ -10,6 +10,7 @@ mod Tests
 -- making a word
 mod Register
 mod Encoding
+pub mod Checks
 -- correcting words
 mod Packed
 mod Table

@@ -207,7 +207,7 @@ register-empty n (c ∷ cs) s j h = fed-empty n (register (feedback n) cs) c (s 
 left-step : (x p v c : ℕ) → sum (product x (product p v)) (product c p) ≡ product p (sum c (product x v))
 left-step x p v c = simp ring
 
-held-nothing : (n x : ℕ) → held n 0 x ≡ 0
+pub held-nothing : (n x : ℕ) → held n 0 x ≡ 0
 held-nothing zero x = refl
 held-nothing (suc n) x = ap₂ sum (zero-product (power x n)) (held-nothing n x) ∙ sum-zero 0
 
@@ -251,25 +251,33 @@ poured-holds (suc n) r info =
     ∙ sym (drop-drop 1 n (poured n (r / 16) (r % 16 ∷ info)))
     ∙ ap (λ (l : List ℕ). drop 1 l) (poured-holds n (r / 16) (r % 16 ∷ info))
 
-poured-root : (n : ℕ) (info : List ℕ) → SemiOctets info → (j : ℕ) → 0 < j → j ≤ n → value (poured n (register (feedback n) info) info) (power 2 j) ≡ 0
-poured-root zero info s j p h = absurd (omega arith)
-poured-root (suc n) info s j p h =
-    let x = power 2 j in
-    let r = register (feedback (suc n)) info in
-    poured-value (suc n) r info x s
-    ∙ ap (λ (v : ℕ). sum v (product (power x (suc n)) (value info x))) (register-held n info x s (rooted-root (suc n) j p h))
-    ∙ sum-self (product (power x (suc n)) (value info x))
+-- at each root, r holds the value of x^n times the data
+abbrev pub Leaves : ℕ → List ℕ → ℕ → Type 0
+Leaves n info r = (j : ℕ) → 0 < j → j ≤ n → held n r (power 2 j) ≡ product (power (power 2 j) n) (value info (power 2 j))
 
--- the digits that the register leaves, in front of the data, are the code word
-pub register-codes : (d : ℕ) (info : List ℕ) → 1 ≤ d → d ≤ 16 → SemiOctets info
-    → CodeWord d info (poured (d - 1) (register (feedback (d - 1)) info) info)
-register-codes d info a b s =
+poured-root : (n r : ℕ) (info : List ℕ) → SemiOctets info → Leaves n info r → (j : ℕ) → 0 < j → j ≤ n → value (poured n r info) (power 2 j) ≡ 0
+poured-root n r info s l j p h =
+    let x = power 2 j in
+    poured-value n r info x s
+    ∙ ap (λ (v : ℕ). sum v (product (power x n) (value info x))) (l j p h)
+    ∙ sum-self (product (power x n) (value info x))
+
+-- the digits of such an r, in front of the data, are the code word
+pub leaves-codes : (d r : ℕ) (info : List ℕ) → 1 ≤ d → d ≤ 16 → SemiOctets info → Leaves (d - 1) info r → CodeWord d info (poured (d - 1) r info)
+leaves-codes d r info a b s l =
     let n = d - 1 in
-    let r = register (feedback n) info in
     let t = poured-semi-octets n r info s in
     record {
       semi-octets = t;
       long = poured-length n r info;
       holds = poured-holds n r info;
-      valid = roots-valid d (poured n r info) a b t (λ j p h. poured-root n info s j p (omega arith));
+      valid = roots-valid d (poured n r info) a b t (λ j p h. poured-root n r info s l j p (omega arith));
     }
+
+register-leaves : (n : ℕ) (info : List ℕ) → SemiOctets info → Leaves n info (register (feedback n) info)
+register-leaves zero info s j p h = absurd (omega arith)
+register-leaves (suc n) info s j p h = register-held n info (power 2 j) s (rooted-root (suc n) j p h)
+
+pub register-codes : (d : ℕ) (info : List ℕ) → 1 ≤ d → d ≤ 16 → SemiOctets info
+    → CodeWord d info (poured (d - 1) (register (feedback (d - 1)) info) info)
+register-codes d info a b s = leaves-codes d (register (feedback (d - 1)) info) info a b s (register-leaves (d - 1) info s)

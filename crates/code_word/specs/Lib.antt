@@ -3,7 +3,9 @@ pub mod Polynomial
 pub mod Word
 pub mod Make
 pub mod Correct
+-- the check semi-octets as a sum over the data, and the register that their table is made with
+pub mod Checks
+pub mod Register
 -- what the private steps promise each other: no public promise cites these
 pub mod Packed
-pub mod Register
 pub mod Corrector

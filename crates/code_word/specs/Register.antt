@@ -1,4 +1,4 @@
--- What the private contracts of src/encoder.rt speak of, the packed shift register; no public contract cites it, and proofs/Register.antt shows that what it
+-- The packed shift register, of which the private contracts of src/encoder.rt and the table of Checks.antt speak; proofs/Register.antt shows that what it
 -- leaves is the code word. A number holds n coefficients as digits to the base 16, the highest power in the lowest digit, so that a step of the
 -- division is a shift down and two sums.
 -- Assumes nothing.

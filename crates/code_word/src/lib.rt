@@ -1,12 +1,16 @@
 // One Reed-Solomon code word of Annex A over the field of 16 (crate `gf16`): its check semi-octets, and its correction.
 // Promised, for every word and mode: `make` leaves the only valid word over the data; `correct` leaves the only valid word of the word's own
 // length within m - 1 places, with the count of places, or says that there is none and leaves the word as it was lent; `correct_each` does so
-// for many words. What is out of range gets an answer of its own. specs/ says what is right; proofs/ has the distance argument, once for d.
+// for many words; `with_data` sums up, with the table of `check_rows`, the check semi-octets of a word whose data come one by one. What is out
+// of range gets an answer of its own. specs/ says what is right; proofs/ has the distance argument, once for d.
 ghost use Rattle.code_word.specs.Make as making;
+ghost use mathlib.Core.Path.{_≡_};
+ghost use Rattle.code_word.specs.Checks.{IsCheckRows, withData};
 ghost use Rattle.code_word.specs.Correct.{Corrects, numberOf, countOf, CorrectsEach, batchNumberOf};
 
 mod corrector;
 mod encoder;
+mod rows;
 mod settings;
 
 // Whether a word was made.
@@ -43,6 +47,23 @@ pub fn make(word: &mut [u8], mode: u32) -> Making
     let r = encoder::divide(&rows, word, n);
     encoder::pour(word, n, r);
     Making::Made
+}
+
+// What each data semi-octet adds to the check semi-octets in a mode: made once for many words, and lent to `with_data`.
+pub fn check_rows(mode: u32) -> [u32; 208]
+    ensures { λ r. ⌜ IsCheckRows mode r ⌝ }
+{
+    rows::check_rows(mode)
+}
+
+// The sum of check semi-octets, packed, with what c at data place k adds: over all data of a word, from 0, they are the word's.
+pub fn with_data(rows: &[u32; 208], k: usize, c: u8, r: u32) -> u32
+    ensures { λ s. ⌜ s ≡ withData (now (rows .entry)) k c r ⌝ }
+{
+    if 13 <= k {
+        return r;
+    }
+    r ^ rows[16 * k + (c % 16) as usize]
 }
 
 // Corrects a word of semi-octets to the only valid one of its length within m - 1 places.
