@@ -2,15 +2,16 @@
 -- number of data; a table's entry is what one semi-octet alone leaves.
 -- Assumes nothing.
 use mathlib.Core.Path.{_≡_, refl, sym, ap, ap₂, _∙_}
-use mathlib.Core.List.{List, [], _∷_, _++_, append-nil}
+use mathlib.Core.List.{List, [], _∷_, _++_}
 use Prim.Native.Nat.{ℕ, zero, suc, _+_, _-_, _*_, _/_, _%_, _≤_, _<_}
 use native.Mathlib.Omega.{arith}
-use native.Mathlib.Nat.{mod-eq-of-lt}
+use native.Mathlib.Nat.{add-zero, mod-eq-of-lt}
+use native.Mathlib.Numerals.{add-one}
 use lib.Bits.{bitXor}
 use lib.ListN.{length, getD, take, drop}
 use lib.Seq.{take-length, drop-cons}
 use borrow.Author.Tests.{lt-ltb}
-use Rattle.laws.specs.Tab.{tab, pick}
+use Rattle.laws.specs.Tab.{pick}
 use Rattle.laws.proofs.Tab.{getD-tab}
 use Rattle.gf16.specs.Field.{sum, product, power}
 use Rattle.gf16.proofs.Laws.{ring2, zero-sum, product-sum, product-by-zero}
@@ -20,7 +21,7 @@ use Rattle.code_word.specs.Make.{coded}
 use Rattle.code_word.specs.Register.{feedback, register, poured}
 use Rattle.code_word.specs.Checks.{alone, checkRows, withData, summed}
 use Rattle.code_word.proofs.Division.{rooted-root, semi-octet-at}
-use Rattle.code_word.proofs.Register.{held, held-xor, held-nothing, register-held, Leaves, leaves-codes, poured-holds}
+use Rattle.code_word.proofs.Register.{held, held-xor, held-nothing, register-held, Leaves, leaves-codes, poured-holds, poured-length}
 use Rattle.code_word.proofs.Coded.{coded-only}
 
 -- ---- one semi-octet alone
@@ -92,7 +93,23 @@ summed-coded d info a l s =
     coded-only d info (poured (d - 1) r info) (omega arith) l s
     (leaves-codes d r info (omega arith) (omega arith) s (summed-leaves (d - 1) info (omega arith) s))
 
+-- ---- the sum as a loop makes it
+
+pub summed-none : (rows : List ℕ) (f : ℕ → ℕ) → 0 ≡ summed rows f 0
+unfolding summed
+summed-none rows f = refl
+
+pub summed-next : (rows : List ℕ) (f : ℕ → ℕ) (k r v : ℕ) → r ≡ summed rows f k → v ≡ withData rows k (f k) r → v ≡ summed rows f (k + 1)
+unfolding summed
+summed-next rows f k r v e d = d ∙ ap (withData rows k (f k)) e ∙ ap (summed rows f) (sym (add-one k))
+
 -- ---- the digits one by one
+
+pub digits-length : (n r : ℕ) → length (poured n r []) ≡ n
+digits-length n r = poured-length n r [] ∙ add-zero n
+
+pub digits-start : (n r : ℕ) → poured n r (drop n (poured n r [])) ≡ poured n r []
+digits-start n r = ap (λ (l : List ℕ). poured n r l) (poured-holds n r [])
 
 pub poured-append : (n r : ℕ) (xs ys : List ℕ) → poured n r (xs ++ ys) ≡ poured n r xs ++ ys
 unfolding poured

@@ -7,26 +7,28 @@ use Prim.Native.Nat.{ℕ, zero, suc, _+_, _*_, _-_, _≤_, _<_}
 use native.Mathlib.Omega.{arith}
 use native.Mathlib.Numerals.{add-one}
 use lib.Bits.{bitXor}
-use lib.Dec.{eqb}
-use lib.ListN.{length, getD, take, drop, set, length-set, length-drop, drop-of-length-le, replicate}
-use lib.Seq.{length-take-le, getD-take, getD-drop, getD-set-same, getD-set-other, drop-at}
-use borrow.Author.Tests.{eqb-true, eqb-false, lt-ltb, le-ltb}
+use lib.Dec.{eqb, ltb}
+use lib.ListN.{length, getD, take, drop, set, length-set, length-append, length-drop, replicate, List·getD-append}
+use lib.Seq.{length-take-le, getD-take, getD-drop, getD-set-same, getD-set-other, getD-append-add}
+use borrow.Author.Tests.{eqb-true, eqb-false, ltb-true, ltb-false, lt-ltb, le-ltb}
 use borrow.Rule.Slice.PartMut.{midOf, putMid, same-len-mid}
-use Rattle.laws.specs.Tab.{total}
+use Rattle.laws.specs.Tab.{total, Below}
 use Rattle.laws.proofs.Tab.{tab-is, total-next, total-none, total-up}
 use Rattle.laws.proofs.Fill.{Filled, filled-last}
 use Rattle.gf16.specs.Field.{sum}
 use Rattle.code_word.specs.Word.{distance}
-use Rattle.code_word.specs.Make.{CodeWord, Makeable, Makes}
-use Rattle.code_word.proofs.Coded.{coded-only}
+use Rattle.code_word.specs.Make.{coded}
+use Rattle.code_word.specs.Register.{poured}
+use Rattle.code_word.specs.Checks.{checkRows, summed}
+use Rattle.code_word.proofs.Checks.{summed-coded, poured-append, digits-length}
 use Rattle.slot.specs.Sizes.{InRange, words, wordLength, dataLength}
 use Rattle.slot.specs.Semi.{pack}
 use Rattle.slot.specs.Words.{piece, dataWord, signatureRow, signature, placeOf, wordOf, numberIn, slotFrom}
 use Rattle.slot.specs.Order.{Data}
 use Rattle.slot.specs.Slot.{codeWord, slotWith}
-use Rattle.slot.specs.Inner.{Scattered, Placed}
+use Rattle.slot.specs.Inner.{Spanned, Scattered, Placed}
 use Rattle.slot.proofs.Sizes.{place-in, length-low, length-high, checks-fit, data-lengths}
-use Rattle.slot.proofs.Semi.{pack-same}
+use Rattle.slot.proofs.Semi.{pack-same, semi-octets-of, below-of}
 use Rattle.slot.proofs.Places.{AllWords, place-word, place-number, place-back, word-lt, number-lt, slot-lt}
 use Rattle.slot.proofs.Slot.{all-words, length-word, semi-octets-word}
 
@@ -72,19 +74,6 @@ copy-is from at n k out h l f =
 
 -- ---- a word scattered
 
--- .. as far as semi-octet n
-pub record ScatteredTo (size : ℕ) (g : ℕ → ℕ → ℕ) (i : ℕ) (w : List ℕ) (n : ℕ) (old new : List ℕ) : Type 0 where
-  pub long : length new ≡ length old
-  pub mine : (k : ℕ) → k < n → getD new (placeOf size i k) 0 ≡ sum (getD w k 0) (g i k)
-  pub others : (p : ℕ) → p < 2 * size → (wordOf size p ≡ i → ⊥) → getD new p 0 ≡ getD old p 0
-
-pub scatter-first : (size : ℕ) (g : ℕ → ℕ → ℕ) (i : ℕ) (w old : List ℕ) → ScatteredTo size g i w 0 old old
-scatter-first size g i w old = record { long = refl; mine = λ k h. absurd (omega arith); others = λ p h n. refl }
-
-pub scatter-last : (size : ℕ) (g : ℕ → ℕ → ℕ) (i : ℕ) (w : List ℕ) (n : ℕ) (old new : List ℕ) → length w ≤ n → ScatteredTo size g i w n old new
-    → Scattered size g i w old new
-scatter-last size g i w n old new h s = record { long = s .long; mine = λ k l. s .mine k (omega arith); others = s .others }
-
 pub place-is : (size count i k : ℕ) → count ≡ words size → 2 * size - count * k - i - 1 ≡ placeOf size i k
 unfolding placeOf
 place-is size count i k e = ap (λ (x : ℕ). 2 * size - x * k - i - 1) e
@@ -97,34 +86,82 @@ place-at : (size i k : ℕ) → 40 ≤ size → i < words size → k < wordLengt
 unfolding placeOf
 place-at size i k h l p = let q = place-in size i k h l p in omega arith
 
-module _ (size : ℕ) (g : ℕ → ℕ → ℕ) (i : ℕ) (w : List ℕ) (from : 40 ≤ size) (inside : i < words size) (long : length w ≡ wordLength size i) where
-  step-mine : (n v : ℕ) (old new : List ℕ) → ScatteredTo size g i w n old new → n < length w → placeOf size i n < length new → v ≡ sum (getD w n 0) (g i n)
-      → (k : ℕ) → k < n + 1 → (b : Bool) → eqb k n ≡ b → getD (set new (placeOf size i n) v) (placeOf size i k) 0 ≡ sum (getD w k 0) (g i k)
-  step-mine n v old new s l f e k h true t =
-      rw (eqb-true k n t) (getD-set-same new (placeOf size i n) v 0 f ∙ e)
-  step-mine n v old new s l f e k h false t =
-      let d : (k ≡ n → ⊥) = eqb-false k n t in
-      let m : k < n = omega arith in
-      let a : k < wordLength size i = omega arith in
-      let b : n < wordLength size i = omega arith in
-      getD-set-other new (placeOf size i n) (placeOf size i k) v 0
-      (λ x. d (sym (place-number size i k from inside a) ∙ ap (numberIn size) x ∙ place-number size i n from inside b))
-      ∙ s .mine k m
+pub span-none : (size : ℕ) (g : ℕ → ℕ → ℕ) (i : ℕ) (f : ℕ → ℕ) (lo hi : ℕ) (old : List ℕ) → hi ≤ lo → Spanned size g i f lo hi old old
+span-none size g i f lo hi old h = record { long = refl; mine = λ k a b. absurd (omega arith); rest = λ k a n. refl; others = λ p h n. refl }
 
-  pub scatter-next : (n v p : ℕ) (old new : List ℕ) → ScatteredTo size g i w n old new → n < length w → length old ≡ 800 → size ≤ 400
-      → p ≡ placeOf size i n → v ≡ sum (getD w n 0) (g i n) → ScatteredTo size g i w (n + 1) old (set new p v)
-  scatter-next n v p old new s l o z q e =
-      let a : n < wordLength size i = omega arith in
-      let b = place-at size i n from inside a in
-      let f : placeOf size i n < length new = omega (arith, s .long) in
-      rw q
+-- semi-octet m beside those that stand: every other one of the wider span was in the narrower
+module _ (size : ℕ) (g : ℕ → ℕ → ℕ) (i : ℕ) (f : ℕ → ℕ) (from : 40 ≤ size) (to : size ≤ 400) (inside : i < words size)
+    (lo hi lo′ hi′ m v p : ℕ) (old new : List ℕ) (s : Spanned size g i f lo hi old new) (room : length old ≡ 800) (in-word : m < wordLength size i)
+    (is-place : p ≡ placeOf size i m) (is-value : v ≡ sum (f m) (g i m)) (with-m : (lo′ ≤ m) × (m < hi′))
+    (were : (k : ℕ) → lo′ ≤ k → k < hi′ → (k ≡ m → ⊥) → (lo ≤ k) × (k < hi)) (wider : (lo′ ≤ lo) × (hi ≤ hi′)) where
+  abbrev at : ℕ
+  at = placeOf size i m
+
+  at-in : at < length new
+  at-in = let b = place-at size i m from inside in-word in omega (arith, s .long)
+
+  elsewhere : (k : ℕ) → k < wordLength size i → (k ≡ m → ⊥) → getD (set new at v) (placeOf size i k) 0 ≡ getD new (placeOf size i k) 0
+  elsewhere k a d =
+      getD-set-other new at (placeOf size i k) v 0
+      (λ x. d (sym (place-number size i k from inside a) ∙ ap (numberIn size) x ∙ place-number size i m from inside in-word))
+
+  set-mine : hi′ ≤ wordLength size i → (k : ℕ) → lo′ ≤ k → k < hi′ → (b : Bool) → eqb k m ≡ b → getD (set new at v) (placeOf size i k) 0 ≡ sum (f k) (g i k)
+  set-mine h k a c true t = rw (eqb-true k m t) (getD-set-same new at v 0 at-in ∙ is-value)
+  set-mine h k a c false t =
+      let d : (k ≡ m → ⊥) = eqb-false k m t in
+      let w = were k a c d in
+      elsewhere k (omega arith) d ∙ s .mine k (w .0) (w .1)
+
+  pub span-set : hi′ ≤ wordLength size i → Spanned size g i f lo′ hi′ old (set new p v)
+  span-set h =
+      rw is-place
       (record {
-        long = length-set new (placeOf size i n) v ∙ s .long;
-        mine = λ k h. step-mine n v old new s l f e k h (eqb k n) refl;
-        others = λ r h d.
-            getD-set-other new (placeOf size i n) r v 0 (λ x. d (ap (wordOf size) x ∙ place-word size i n from inside a))
-            ∙ s .others r h d;
+        long = length-set new at v ∙ s .long;
+        mine = λ k a c. set-mine h k a c (eqb k m) refl;
+        rest = λ k a n.
+            elsewhere k a (λ e. n (omega (arith, with-m .0)) (omega (arith, with-m .1)))
+            ∙ s .rest k a (λ x y. n (omega (arith, wider .0)) (omega (arith, wider .1)));
+        others = λ r q d.
+            getD-set-other new at r v 0 (λ x. d (ap (wordOf size) x ∙ place-word size i m from inside in-word))
+            ∙ s .others r q d;
       })
+
+module _ (size : ℕ) (g : ℕ → ℕ → ℕ) (i : ℕ) (f : ℕ → ℕ) (from : 40 ≤ size) (to : size ≤ 400) (inside : i < words size)
+    (lo hi m v p : ℕ) (old new : List ℕ) (s : Spanned size g i f lo hi old new) (room : length old ≡ 800)
+    (is-place : p ≡ placeOf size i m) (is-value : v ≡ sum (f m) (g i m)) where
+  pub span-up : (hi′ : ℕ) → hi′ ≡ hi + 1 → m ≡ hi → lo ≤ hi → hi < wordLength size i → Spanned size g i f lo hi′ old (set new p v)
+  span-up hi′ u e a h =
+      span-set size g i f from to inside lo hi lo hi′ m v p old new s room (omega arith) is-place is-value
+      (omega arith, omega arith) (λ k b c d. (omega arith, omega arith)) (omega arith, omega arith) (omega arith)
+
+  pub span-down : m + 1 ≡ lo → lo ≤ hi → hi ≤ wordLength size i → Spanned size g i f m hi old (set new p v)
+  span-down e a h =
+      span-set size g i f from to inside lo hi m hi m v p old new s room (omega arith) is-place is-value
+      (omega arith, omega arith) (λ k b c d. (omega arith, omega arith)) (omega arith, omega arith) h
+
+pub span-end : (size : ℕ) (g : ℕ → ℕ → ℕ) (i : ℕ) (f : ℕ → ℕ) (lo hi lo′ hi′ : ℕ) (old new : List ℕ) → lo ≡ lo′ → hi ≡ hi′ → Spanned size g i f lo hi old new
+    → Spanned size g i f lo′ hi′ old new
+span-end size g i f lo hi lo′ hi′ old new a b s = rw (a, b) at s
+
+-- data and check semi-octets together are the word
+pub span-both : (size : ℕ) (g : ℕ → ℕ → ℕ) (i n : ℕ) (checks info w old mid new : List ℕ) → w ≡ checks ++ info → length checks ≡ n
+    → length w ≡ wordLength size i → Spanned size g i (λ k. getD info (k - n) 0) n (wordLength size i) old mid
+    → Spanned size g i (λ k. getD checks k 0) 0 n mid new → Scattered size g i w old new
+span-both size g i n checks info w old mid new e c l a b = record {
+  long = b .long ∙ a .long;
+  mine = λ k h. at k h (ltb k n) refl;
+  others = λ p h d. b .others p h d ∙ a .others p h d;
+}
+  where
+    at : (k : ℕ) → k < length w → (t : Bool) → ltb k n ≡ t → getD new (placeOf size i k) 0 ≡ sum (getD w k 0) (g i k)
+    at k h true t =
+        let q : k < n = ltb-true k n t in
+        b .mine k (omega arith) q ∙ ap (λ (x : ℕ). sum x (g i k)) (sym (ap (λ (x : List ℕ). getD x k 0) e ∙ List·getD-append checks info 0 k (omega arith)))
+    at k h false t =
+        let q : n ≤ k = ltb-false k n t in
+        let s : k ≡ length checks + (k - n) = omega arith in
+        b .rest k (omega arith) (λ x y. omega arith) ∙ a .mine k q (omega arith)
+        ∙ ap (λ (x : ℕ). sum x (g i k)) (sym (ap₂ (λ (x : List ℕ) (y : ℕ). getD x y 0) e s ∙ getD-append-add checks info (k - n) 0))
 
 -- ---- words placed
 
@@ -166,74 +203,53 @@ pack-is f n k slot h s = filled-last (λ j. f (2 * j) + 16 * f (2 * j + 1)) n k 
 
 -- ---- a word with its checks
 
--- a word that can be made is made
-made-code : (mode : ℕ) (old new : List ℕ) (n : ℕ) → Makeable mode old → Makes mode old new n → CodeWord (distance mode) (drop (distance mode - 1) old) new
-made-code mode old new zero k m = m .made
-made-code mode old new (suc zero) k m = absurd (m .unfit k)
-made-code mode old new (suc (suc n)) k m = absurd m
+module _ (mode : ℕ) (info : List ℕ) (from : 2 ≤ mode) (to : mode ≤ 4) (short : 2 * (mode - 1) + length info ≤ 15) (small : Below 16 info) where
+  -- the check semi-octets summed up over the data, in front of them, are the code word
+  pub summed-word : (rows : List ℕ) (r : ℕ) → rows ≡ checkRows (distance mode - 1) → r ≡ summed rows (λ k. getD info k 0) (length info)
+      → coded (distance mode) info ≡ poured (2 * (mode - 1)) r [] ++ info
+  summed-word rows r e d =
+      let n : distance mode - 1 ≡ 2 * (mode - 1) = omega arith in
+      sym (summed-coded (distance mode) info (omega arith) (omega arith) (semi-octets-of info small))
+      ∙ ap (λ (x : ℕ). poured (distance mode - 1) x info) (sym (d ∙ ap (λ (x : List ℕ). summed x (λ k. getD info k 0) (length info)) e))
+      ∙ ap (λ (x : ℕ). poured x r info) n
+      ∙ poured-append (2 * (mode - 1)) r [] info
 
-pub scattered-as : (size : ℕ) (g : ℕ → ℕ → ℕ) (i : ℕ) (v w old new : List ℕ) → v ≡ w → Scattered size g i v old new → Scattered size g i w old new
-scattered-as size g i v w old new e s = rw e at s
-
--- the data behind the checks
-module _ (size mode i at : ℕ) (info w : List ℕ) (range : InRange size mode) (inside : i < words size) (start : at ≡ total (dataLength size mode) i)
-    (given : Data size mode info) (long : length w ≡ wordLength size i) where
-  room : length (midOf (2 * (mode - 1)) (length w - 2 * (mode - 1)) w) ≡ dataLength size mode i
-  room =
-      let f = checks-fit size mode i range inside in
-      let d = length-drop (2 * (mode - 1)) w in
-      length-take-le (length w - 2 * (mode - 1)) (drop (2 * (mode - 1)) w) (omega arith) ∙ omega arith
-
-  pub copy-fits : at + length (midOf (2 * (mode - 1)) (length w - 2 * (mode - 1)) w) ≤ length info
-  copy-fits =
-      let r = room in
-      let u = total-up (dataLength size mode) (suc i) (words size) inside in
-      let n = total-next (dataLength size mode) i in
-      let t = data-lengths size mode range in
-      let l = given .long in
-      omega arith
-
-  module _ (last : List ℕ) (copied : last ≡ take (length (midOf (2 * (mode - 1)) (length w - 2 * (mode - 1)) w)) (drop at info)) where
-    behind : drop (2 * (mode - 1)) (putMid (2 * (mode - 1)) (length w - 2 * (mode - 1)) w last) ≡ dataWord size mode info i
-    unfolding dataWord piece
-    behind =
-        let f = checks-fit size mode i range inside in
-        let d = length-drop (2 * (mode - 1)) w in
-        let l : length (drop (2 * (mode - 1)) w) ≤ length w - 2 * (mode - 1) = omega arith in
-        let z : drop (length w - 2 * (mode - 1)) (drop (2 * (mode - 1)) w) ≡ [] = drop-of-length-le (drop (2 * (mode - 1)) w) {i = length w - 2 * (mode - 1)} l in
-        drop-at (take (2 * (mode - 1)) w) (last ++ drop (length w - 2 * (mode - 1)) (drop (2 * (mode - 1)) w)) (2 * (mode - 1))
-        (length-take-le (2 * (mode - 1)) w (omega arith))
-        ∙ ap (λ (t : List ℕ). last ++ t) z ∙ append-nil last
-        ∙ copied ∙ ap₂ (λ (n m : ℕ). take n (drop m info)) room start
-
-    length-filled : length (putMid (2 * (mode - 1)) (length w - 2 * (mode - 1)) w last) ≡ wordLength size i
-    length-filled =
-        let f = checks-fit size mode i range inside in
-        let c = copy-fits in
-        let d = length-drop at info in
-        let e : length last ≡ length (midOf (2 * (mode - 1)) (length w - 2 * (mode - 1)) w) =
-        ap (λ (t : List ℕ). length t) copied ∙ length-take-le (length (midOf (2 * (mode - 1)) (length w - 2 * (mode - 1)) w)) (drop at info) (omega arith) in
-        same-len-mid (2 * (mode - 1)) (length w - 2 * (mode - 1)) w last e ∙ long
-
-    pub made-word : (made : List ℕ) (n : ℕ) → Makes mode (putMid (2 * (mode - 1)) (length w - 2 * (mode - 1)) w last) made n → made ≡ codeWord size mode info i
-    unfolding codeWord
-    made-word made n m =
-        let e : 2 * mode - 1 - 1 ≡ 2 * (mode - 1) = omega arith in
-        let b : drop (2 * mode - 1 - 1) (putMid (2 * (mode - 1)) (length w - 2 * (mode - 1)) w last) ≡ dataWord size mode info i = rw e behind in
-        let s = semi-octets-word size mode info range given i in
-        let l = length-filled in
-        let lo = length-low size i (range .size-from) inside in
-        let hi = length-high size i (range .size-from) in
-        let f = checks-fit size mode i range inside in
-        let d = length-word size mode info range given i inside in
-        let k : Makeable mode (putMid (2 * (mode - 1)) (length w - 2 * (mode - 1)) w last) = record {
-          fits = record { mode-from = range .mode-from; mode-to = range .mode-to; checks = omega (arith, range .mode-to); most = omega arith };
-          semi-octets = rw b s;
-        } in
-        let c : CodeWord (distance mode) (dataWord size mode info i) made = rw b at (made-code mode _ made n k m) in
-        coded-only (distance mode) (dataWord size mode info i) made (omega (arith, range .mode-from)) (omega arith) s c
+pub word-scattered : (size mode i r : ℕ) (rows info old mid new : List ℕ) → InRange size mode → i < words size → length info ≡ dataLength size mode i → Below 16 info
+    → rows ≡ checkRows (distance mode - 1) → r ≡ summed rows (λ k. getD info k 0) (length info)
+    → Spanned size (signature mode) i (λ k. getD info (k - 2 * (mode - 1)) 0) (2 * (mode - 1)) (wordLength size i) old mid
+    → Spanned size (signature mode) i (λ k. getD (poured (2 * (mode - 1)) r []) k 0) 0 (2 * (mode - 1)) mid new
+    → Scattered size (signature mode) i (coded (distance mode) info) old new
+word-scattered size mode i r rows info old mid new range inside long small e d a b =
+    let n : ℕ = 2 * (mode - 1) in
+    let f = checks-fit size mode i range inside in
+    let h = length-high size i (range .size-from) in
+    let l = digits-length n r in
+    let w = summed-word mode info (range .mode-from) (range .mode-to) (omega arith) small rows r e d in
+    span-both size (signature mode) i n (poured n r []) info (coded (distance mode) info) old mid new w l
+    (ap (λ (x : List ℕ). length x) w ∙ length-append (poured n r []) info ∙ omega arith) a b
 
 -- ---- the loop over the words
+
+-- the part of the data that is lent for word i
+module _ (size mode i at n e : ℕ) (info : List ℕ) (range : InRange size mode) (inside : i < words size) (start : at ≡ total (dataLength size mode) i)
+    (given : Data size mode info) (is : n ≡ wordLength size i) (end : e ≡ at + (n - 2 * (mode - 1))) where
+  part-is : take (e - at) (drop at info) ≡ dataWord size mode info i
+  unfolding dataWord piece
+  part-is =
+      let f = checks-fit size mode i range inside in
+      let d : e - at ≡ dataLength size mode i = omega arith in
+      ap₂ (λ (x y : ℕ). take x (drop y info)) d start
+
+  pub part-long : length (take (e - at) (drop at info)) ≡ dataLength size mode i
+  part-long = ap (λ (x : List ℕ). length x) part-is ∙ length-word size mode info range given i inside
+
+  pub part-below : Below 16 (take (e - at) (drop at info))
+  part-below = rw part-is (below-of (dataWord size mode info i) (semi-octets-word size mode info range given i))
+
+  pub part-scattered : (g : ℕ → ℕ → ℕ) (old new : List ℕ) → Scattered size g i (coded (distance mode) (take (e - at) (drop at info))) old new
+      → Scattered size g i (codeWord size mode info i) old new
+  unfolding codeWord
+  part-scattered g old new s = rw part-is at s
 
 pub at-next : (size mode i at e : ℕ) → at ≡ total (dataLength size mode) i → e ≡ wordLength size i
     → at + (e - 2 * (mode - 1)) ≡ total (dataLength size mode) (i + 1)

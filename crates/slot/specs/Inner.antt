@@ -36,6 +36,13 @@ pub record SteppedFour (p n : ℕ) (table : List ℕ) : Type 0 where
 abbrev pub semiPushed : ℕ → ℕ → ℕ → ℕ → ℕ
 semiPushed p n c r = pushed p n (c % 2) (pushed p n (c / 2 % 2) (pushed p n (c / 4 % 2) (pushed p n (c / 8 % 2) r)))
 
+-- the semi-octets lo .. hi - 1 of word i, f k for each, stand at their places with the signature g, and nothing else was changed
+pub record Spanned (size : ℕ) (g : ℕ → ℕ → ℕ) (i : ℕ) (f : ℕ → ℕ) (lo hi : ℕ) (old new : List ℕ) : Type 0 where
+  pub long : length new ≡ length old
+  pub mine : (k : ℕ) → lo ≤ k → k < hi → getD new (placeOf size i k) 0 ≡ sum (f k) (g i k)
+  pub rest : (k : ℕ) → k < wordLength size i → (lo ≤ k → k < hi → ⊥) → getD new (placeOf size i k) 0 ≡ getD old (placeOf size i k) 0
+  pub others : (p : ℕ) → p < 2 * size → (wordOf size p ≡ i → ⊥) → getD new p 0 ≡ getD old p 0
+
 -- the word w, with the signature g, stands at the places of word i, and nothing else was changed
 pub record Scattered (size : ℕ) (g : ℕ → ℕ → ℕ) (i : ℕ) (w old new : List ℕ) : Type 0 where
   pub long : length new ≡ length old

@@ -1,14 +1,19 @@
 // Words to their places in the slot and back (A.38, A.46 to A.52): the mode signature, the interleaving, the bytes.
 ghost use mathlib.Core.Path.{_≡_};
-ghost use Prim.Native.Nat.{ℕ, _+_, _*_, _≤_, _<_};
+ghost use mathlib.Core.List.{[]};
+ghost use Prim.Native.Nat.{ℕ, _+_, _*_, _-_, _≤_, _<_};
 ghost use lib.ListN.{length, getD, take, drop};
+ghost use Rattle.laws.specs.Tab.{Below};
+ghost use Rattle.code_word.specs.Word.{distance};
+ghost use Rattle.code_word.specs.Make.{coded};
+ghost use Rattle.code_word.specs.Register.{poured};
+ghost use Rattle.code_word.specs.Checks.{checkRows, summed};
 ghost use Rattle.slot.specs.Sizes.{InRange, words, wordLength, dataLength};
 ghost use Rattle.slot.specs.Semi.{pack};
 ghost use Rattle.slot.specs.Words.{signature};
 ghost use Rattle.slot.specs.Order.{Data};
-ghost use Rattle.slot.specs.Slot.{codeWord, slotWith};
-ghost use Rattle.slot.specs.Inner.{Scattered};
-ghost use Rattle.laws.specs.Tab.{total};
+ghost use Rattle.slot.specs.Slot.{slotWith};
+ghost use Rattle.slot.specs.Inner.{Spanned, Scattered};
 use crate::geometry;
 
 // A.47, A.48 and A.49.
@@ -45,16 +50,45 @@ pub fn copy_part(from: &[u8], at: usize, out: &mut [u8])
     }
 }
 
-// The semi-octets of word i, with the signature's row added, to their places.
-fn scatter(size: usize, i: usize, mode: usize, w: &[u8], row: &[u8], places: &mut [u8])
-    requires { ⌜ (InRange size mode) × (i < words size) × (length (now w) ≡ wordLength size i) × (length (now row) ≡ 15) × (length (now places) ≡ 800) × ((k : ℕ) → getD (now row) k 0 ≡ signature mode i k) ⌝ }
-    ensures { λ _. ⌜ Scattered size (signature mode) i (now (w .entry)) (now (places .entry)) (now (places .exit)) ⌝ }
+// The data of word i, with the signature's row added, to their places; what they add to the check semi-octets is summed up on the way.
+fn scatter_data(
+    size: usize,
+    i: usize,
+    mode: usize,
+    info: &[u8],
+    row: &[u8],
+    rows: &[u32; 208],
+    places: &mut [u8],
+) -> u32
+    requires { ⌜ (InRange size mode) × (i < words size) × (length (now info) ≡ dataLength size mode i) × (length (now row) ≡ 15) × (length (now places) ≡ 800) × ((k : ℕ) → getD (now row) k 0 ≡ signature mode i k) ⌝ }
+    ensures { λ r. ⌜ r ≡ summed (now (rows .entry)) (λ k. getD (now (info .entry)) k 0) (length (now (info .entry))) ⌝ }
+    ensures { λ r. ⌜ Spanned size (signature mode) i (λ k. getD (now (info .entry)) (k - 2 * (mode - 1)) 0) (2 * (mode - 1)) (wordLength size i) (now (places .entry)) (now (places .exit)) ⌝ }
 {
     let count = geometry::word_count(size);
+    let checks = 2 * (mode - 1);
+    let mut r: u32 = 0;
     let mut k: usize = 0;
-    while k < w.len() {
-        places[2 * size - count * k - i - 1] = w[k] ^ row[k];
+    while k < info.len() {
+        let c = info[k];
+        r = code_word::with_data(rows, k, c, r);
+        places[2 * size - count * (checks + k) - i - 1] = c ^ row[checks + k];
         k = k + 1;
+    }
+    r
+}
+
+// The check semi-octets of word i, with the signature's row added, to their places; the last one is r's lowest digit.
+fn scatter_checks(size: usize, i: usize, mode: usize, r: u32, row: &[u8], places: &mut [u8])
+    requires { ⌜ (InRange size mode) × (i < words size) × (length (now row) ≡ 15) × (length (now places) ≡ 800) × ((k : ℕ) → getD (now row) k 0 ≡ signature mode i k) ⌝ }
+    ensures { λ _. ⌜ Spanned size (signature mode) i (λ k. getD (poured (2 * (mode - 1)) r []) k 0) 0 (2 * (mode - 1)) (now (places .entry)) (now (places .exit)) ⌝ }
+{
+    let count = geometry::word_count(size);
+    let mut rest = r;
+    let mut k = 2 * (mode - 1);
+    while 0 < k {
+        k = k - 1;
+        places[2 * size - count * k - i - 1] = (rest % 16) as u8 ^ row[k];
+        rest = rest / 16;
     }
 }
 
@@ -71,23 +105,13 @@ fn pack_bytes(places: &[u8], slot: &mut [u8])
 }
 
 // Code word i over its data, to its places.
-fn place_word(
-    size: usize,
-    mode: usize,
-    i: usize,
-    at: usize,
-    info: &[u8],
-    w: &mut [u8],
-    places: &mut [u8],
-)
-    requires { ⌜ (InRange size mode) × (i < words size) × (at ≡ total (dataLength size mode) i) × (Data size mode (now info)) × (length (now w) ≡ wordLength size i) × (length (now places) ≡ 800) ⌝ }
-    ensures { λ _. ⌜ Scattered size (signature mode) i (codeWord size mode (now (info .entry)) i) (now (places .entry)) (now (places .exit)) ⌝ }
+fn place_word(size: usize, mode: usize, i: usize, info: &[u8], rows: &[u32; 208], places: &mut [u8])
+    requires { ⌜ (InRange size mode) × (i < words size) × (length (now info) ≡ dataLength size mode i) × (Below 16 (now info)) × (now rows ≡ checkRows (distance mode - 1)) × (length (now places) ≡ 800) ⌝ }
+    ensures { λ _. ⌜ Scattered size (signature mode) i (coded (distance mode) (now (info .entry))) (now (places .entry)) (now (places .exit)) ⌝ }
 {
-    let checks = 2 * (mode - 1);
-    copy_part(info, at, &mut w[checks..]);
-    code_word::make(w, mode as u32);
     let row = signature_row(mode, i);
-    scatter(size, i, mode, w, &row, places);
+    let r = scatter_data(size, i, mode, info, &row, rows, places);
+    scatter_checks(size, i, mode, r, &row, places);
 }
 
 // The slot with these data.
@@ -96,14 +120,14 @@ pub fn write_slot(size: usize, mode: usize, info: &[u8], slot: &mut [u8])
     ensures { λ _. ⌜ now (slot .exit) ≡ slotWith size mode (now (info .entry)) ⌝ }
 {
     let count = geometry::word_count(size);
-    let mut w = [0u8; 15];
+    let rows = code_word::check_rows(mode as u32);
     let mut places = [0u8; 800];
     let mut at: usize = 0;
     let mut i: usize = 0;
     while i < count {
-        let e = geometry::word_length(size, count, i);
-        place_word(size, mode, i, at, info, &mut w[..e], &mut places);
-        at = at + (e - 2 * (mode - 1));
+        let e = at + (geometry::word_length(size, count, i) - 2 * (mode - 1));
+        place_word(size, mode, i, &info[at..e], &rows, &mut places);
+        at = e;
         i = i + 1;
     }
     pack_bytes(&places, slot);
