@@ -16,6 +16,7 @@ use Rattle.slot.specs.Inner.{semiPushed}
 use Rattle.slot.specs.Sizes.{frameSize, conceal, hash1}
 use Rattle.slot.specs.Order.{partN, partP, firstHash, secondHash}
 use Rattle.slot.proofs.Hash.{pushed-lt, sum-below, bit-lt}
+use Rattle.slot.proofs.HashRaised.{hash-lowered}
 
 -- a polynomial of such a degree, and a remainder by it, fit
 pub degree-fits : (p n : ℕ) → Degree p n → n ≤ 22 → p < 8388608
@@ -87,12 +88,14 @@ hash-rest p n s i v f =
 
 -- ---- the two hashes
 
+-- 71956 is 4 * 17989: x^2 times `poly14`
 pub first-forty : (size mode q e : ℕ) (a : List ℕ) (r v : ℕ) → size ≡ 40 → e ≡ 2 * frameSize size mode - conceal size mode
-    → r ≡ hash 17989 14 (bitsOf (take e a)) → v ≡ pushed 17989 14 (q % 2) (pushed 17989 14 (q / 2 % 2) r) → v ≡ firstHash size mode q a
+    → r ≡ hash 71956 16 (bitsOf (take e a)) → v ≡ pushed 17989 14 (q % 2) (pushed 17989 14 (q / 2 % 2) (r / 4)) → v ≡ firstHash size mode q a
 unfolding firstHash partN hash1 hash poly14 powers
 first-forty size mode q e a r v h k g f =
+    let y : r / 4 ≡ hash 17989 14 (bitsOf (take e a)) = ap (λ (x : ℕ). x / 4) g ∙ hash-lowered 17989 14 2 (bitsOf (take e a)) in
     let w : v ≡ pushed 17989 14 (q % 2) (pushed 17989 14 (q / 2 % 2) (hash 17989 14 (bitsOf (take e a)))) =
-    f ∙ ap (λ (x : ℕ). pushed 17989 14 (q % 2) (pushed 17989 14 (q / 2 % 2) x)) g in
+    f ∙ ap (λ (x : ℕ). pushed 17989 14 (q % 2) (pushed 17989 14 (q / 2 % 2) x)) y in
     rw (eq-eqb size 40 h) (rw k at w)
 
 pub first-other : (size mode q e : ℕ) (a : List ℕ) (r v : ℕ) → (size ≡ 40 → ⊥) → e ≡ 2 * frameSize size mode - conceal size mode

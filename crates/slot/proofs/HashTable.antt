@@ -216,9 +216,9 @@ semi-step p n c r v table t d f h l e =
 rows-test : ℕ → ℕ → List ℕ → ℕ → Bool
 rows-test p n table t = eqb (getD table t 0) (lifted p n 4 (t * 2 ^ (n - 4)))
 
-pub rows-fourteen : Stepped 17989 14 (0 ∷ 1605 ∷ 3210 ∷ 2767 ∷ 6420 ∷ 8017 ∷ 5534 ∷ 5083 ∷ 12840 ∷ 13421 ∷ 16034 ∷ 14567 ∷ 11068 ∷ 11641 ∷ 10166 ∷ 8691 ∷ [])
+pub rows-raised : Stepped 71956 16 (0 ∷ 6420 ∷ 12840 ∷ 11068 ∷ 25680 ∷ 32068 ∷ 22136 ∷ 20332 ∷ 51360 ∷ 53684 ∷ 64136 ∷ 58268 ∷ 44272 ∷ 46564 ∷ 40664 ∷ 34764 ∷ [])
 unfolding rows-test lifted pushed sum
-rows-fourteen = record { entry = λ t h. eqb→eq _ _ (at 16 (rows-test 17989 14 (0 ∷ 1605 ∷ 3210 ∷ 2767 ∷ 6420 ∷ 8017 ∷ 5534 ∷ 5083 ∷ 12840 ∷ 13421 ∷ 16034 ∷ 14567 ∷ 11068 ∷ 11641 ∷ 10166 ∷ 8691 ∷ [])) tt t h) }
+rows-raised = record { entry = λ t h. eqb→eq _ _ (at 16 (rows-test 71956 16 (0 ∷ 6420 ∷ 12840 ∷ 11068 ∷ 25680 ∷ 32068 ∷ 22136 ∷ 20332 ∷ 51360 ∷ 53684 ∷ 64136 ∷ 58268 ∷ 44272 ∷ 46564 ∷ 40664 ∷ 34764 ∷ [])) tt t h) }
 
 pub rows-twenty-two : Stepped 4788009 22 (0 ∷ 593705 ∷ 1187410 ∷ 1773947 ∷ 2374820 ∷ 2962317 ∷ 3547894 ∷ 4140511 ∷ 95841 ∷ 555336 ∷ 1271859 ∷ 1730330 ∷ 2443973 ∷ 2901484 ∷ 3626135 ∷ 4086718 ∷ [])
 unfolding rows-test lifted pushed sum

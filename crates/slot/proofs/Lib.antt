@@ -11,6 +11,7 @@ pub mod Demand
 mod SizeSteps
 mod HashTable
 mod HashFours
+mod HashRaised
 mod HashSteps
 mod OrderSteps
 mod PlaceSteps

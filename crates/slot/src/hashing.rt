@@ -1,5 +1,5 @@
 // The two hashes (A.20 to A.25) from the highest power down: four semi-octets at a time, so that the remainder waits for a table
-// once in four; the hash of degree 14, which has not sixteen bits, a semi-octet at a time.
+// once in four.
 ghost use mathlib.Core.Path.{_≡_};
 ghost use Prim.Native.Nat.{_+_, _*_, _/_, _%_, _^_, _≤_, _<_};
 ghost use lib.ListN.{length};
@@ -16,24 +16,27 @@ const TWENTY_TWO: u32 = 0x49_0f29;
 
 const SIXTEEN: u32 = 0x1_a2eb;
 
+// A.21 times x^2: a remainder by it has the sixteen bits that four semi-octets need, and is x^2 times the one by A.21.
+const RAISED: u32 = 0x1_1914;
+
 // Entry t is what the four highest bits t of a remainder come to, four powers higher.
-const ROWS_FOURTEEN: [u32; 16] = [
+const ROWS_RAISED: [u32; 16] = [
     0x0000,
-    0x0645,
-    0x0c8a,
-    0x0acf,
     0x1914,
-    0x1f51,
-    0x159e,
-    0x13db,
     0x3228,
-    0x346d,
-    0x3ea2,
-    0x38e7,
     0x2b3c,
-    0x2d79,
-    0x27b6,
-    0x21f3,
+    0x6450,
+    0x7d44,
+    0x5678,
+    0x4f6c,
+    0xc8a0,
+    0xd1b4,
+    0xfa88,
+    0xe39c,
+    0xacf0,
+    0xb5e4,
+    0x9ed8,
+    0x87cc,
 ];
 
 const ROWS_TWENTY_TWO: [u32; 16] = [
@@ -75,6 +78,57 @@ const ROWS_SIXTEEN: [u32; 16] = [
 ];
 
 // Entry 16 k + t is what the bits t come to, sixteen powers higher, k + 1 semi-octets above the lowest of the sixteen highest bits.
+const FOURS_RAISED: [u32; 48] = [
+    0x0000,
+    0x8854,
+    0x09bc,
+    0x81e8,
+    0x1378,
+    0x9b2c,
+    0x1ac4,
+    0x9290,
+    0x26f0,
+    0xaea4,
+    0x2f4c,
+    0xa718,
+    0x3588,
+    0xbddc,
+    0x3c34,
+    0xb460,
+    0x0000,
+    0x4de0,
+    0x9bc0,
+    0xd620,
+    0x2e94,
+    0x6374,
+    0xb554,
+    0xf8b4,
+    0x5d28,
+    0x10c8,
+    0xc6e8,
+    0x8b08,
+    0x73bc,
+    0x3e5c,
+    0xe87c,
+    0xa59c,
+    0x0000,
+    0xba50,
+    0x6db4,
+    0xd7e4,
+    0xdb68,
+    0x6138,
+    0xb6dc,
+    0x0c8c,
+    0xafc4,
+    0x1594,
+    0xc270,
+    0x7820,
+    0x74ac,
+    0xcefc,
+    0x1918,
+    0xa348,
+];
+
 const FOURS_TWENTY_TWO: [u32; 48] = [
     0x00_0000,
     0x02_ecc2,
@@ -274,7 +328,7 @@ pub fn first_hash(size: usize, mode: usize, request: u32, a: &[u8]) -> u32
             FOURTEEN,
             14,
             request,
-            hash_of(&ROWS_FOURTEEN, FOURTEEN, 14, &a[..e]),
+            hash_by_fours(&ROWS_RAISED, &FOURS_RAISED, RAISED, 16, &a[..e]) / 4,
         ),
         _ => with_request(
             TWENTY_TWO,
