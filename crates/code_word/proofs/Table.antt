@@ -14,12 +14,37 @@ use Rattle.laws.proofs.Tab.{getD-tab}
 use Rattle.gf16.specs.Field.{product, power}
 use Rattle.gf16.proofs.Laws.{product-lt}
 use Rattle.code_word.specs.Packed.{nibble, packed}
-use Rattle.code_word.specs.Corrector.{Table}
+use Rattle.code_word.specs.Corrector.{Table, numberAt}
 use Rattle.code_word.proofs.Packed.{nibble-packed}
 
--- digit j of entry 16 a + b
+-- digit j of number 16 a + b, where x is 2^a and y is a times b
+abbrev pub digit : ℕ → ℕ → ℕ → ℕ → ℕ
+digit x y b j = pick (ltb j 15) (product b (power x j)) y
+
+-- the low (h = 0) or high (h = 1) half of that number; x and y are arguments, so that they are computed once for its digits
+abbrev pub packedHalf : ℕ → ℕ → ℕ → ℕ → ℕ
+packedHalf x y b h = packed (λ j. digit x y b (8 * h + j)) 8
+
+abbrev pub half : ℕ → ℕ → ℕ → ℕ
+half a b h = packedHalf (power 2 a) (product a b) b h
+
+-- the halves one after the other, the low one first
+abbrev pub entryOf : ℕ → ℕ
+entryOf p = half (p / 2 / 16) (p / 2 % 16) (p % 2)
+
+unfoldable pub entries : List ℕ
+entries = tab entryOf 512
+
+entry-at : (a b h p : ℕ) → a < 16 → b < 16 → h < 2 → p ≡ 2 * (16 * a + b) + h → getD entries p 0 ≡ half a b h
+unfolding entries
+entry-at a b h p ha hb hh e =
+    let q : p / 2 / 16 ≡ a = omega arith in
+    let r : p / 2 % 16 ≡ b = omega arith in
+    let o : p % 2 ≡ h = omega arith in
+    getD-tab entryOf 512 p (omega arith) ∙ ap₂ (λ (x y : ℕ). half x y (p % 2)) q r ∙ ap (half a b) o
+
 abbrev cell : ℕ → ℕ → ℕ → ℕ
-cell a b j = pick (ltb j 15) (product b (power (power 2 a) j)) (product a b)
+cell a b = digit (power 2 a) (product a b) b
 
 pick-lt : (c : Bool) (x y : ℕ) → x < 16 → y < 16 → pick c x y < 16
 pick-lt true x y p q = p
@@ -28,18 +53,13 @@ pick-lt false x y p q = q
 cell-lt : (a b j : ℕ) → cell a b j < 16
 cell-lt a b j = pick-lt (ltb j 15) _ _ (product-lt b (power (power 2 a) j)) (product-lt a b)
 
-abbrev pub entryOf : ℕ → ℕ
-entryOf i = packed (cell (i / 16) (i % 16)) 16
+halves : (f : ℕ → ℕ) → packed (λ j. f (8 * 0 + j)) 8 + packed (λ j. f (8 * 1 + j)) 8 * 4294967296 ≡ packed f 16
+halves f = omega arith
 
-unfoldable pub entries : List ℕ
-entries = tab entryOf 256
-
-entry-at : (a b : ℕ) → a < 16 → b < 16 → getD entries (16 * a + b) 0 ≡ packed (cell a b) 16
-unfolding entries
-entry-at a b ha hb =
-    let q : (16 * a + b) / 16 ≡ a = omega arith in
-    let r : (16 * a + b) % 16 ≡ b = omega arith in
-    getD-tab entryOf 256 (16 * a + b) (omega arith) ∙ ap₂ (λ (x y : ℕ). packed (cell x y) 16) q r
+number-at : (a b : ℕ) → a < 16 → b < 16 → numberAt entries (16 * a + b) ≡ packed (cell a b) 16
+number-at a b ha hb =
+    ap₂ (λ (x y : ℕ). x + y * 4294967296) (entry-at a b 0 _ ha hb (omega arith) (omega arith)) (entry-at a b 1 _ ha hb (omega arith) refl)
+    ∙ halves (cell a b)
 
 -- the highest digit of a packed number
 packed-top : (f : ℕ → ℕ) (n : ℕ) → ((i : ℕ) → f i < 16) → packed f (suc n) / 16 ^ n ≡ f n
@@ -56,8 +76,10 @@ pub table-of-entries : Table entries
 table-of-entries =
     record {
       spread = λ a b j ha hb hj.
-          ap (λ (x : ℕ). nibble j x) (entry-at a b (omega arith) hb)
+          ap (λ (x : ℕ). nibble j x) (number-at a b (omega arith) hb)
           ∙ nibble-packed (cell a b) 16 j (cell-lt a b) (omega arith)
           ∙ ap (λ (c : Bool). pick c (product b (power (power 2 a) j)) (product a b)) (lt-ltb j 15 hj);
-      times = λ a b ha hb. ap (λ (x : ℕ). x / 1152921504606846976) (entry-at a b ha hb) ∙ packed-top (cell a b) 15 (cell-lt a b);
+      times = λ a b ha hb.
+          ap (λ (x : ℕ). x / 268435456) (entry-at a b 1 _ ha hb (omega arith) refl)
+          ∙ packed-top (λ j. cell a b (8 * 1 + j)) 7 (λ j. cell-lt a b (8 * 1 + j));
     }
