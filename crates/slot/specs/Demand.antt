@@ -5,7 +5,7 @@ use mathlib.Core.Logic.{_↔_}
 use mathlib.Core.List.{List}
 use Prim.Native.Nat.{ℕ, _-_, _*_}
 use Rattle.slot.specs.Changes.{changes, AtMost}
-use Rattle.slot.specs.Protect.{Settings, Lengths}
+use Rattle.slot.specs.Protect.{Settings, Lengths, Protects}
 use Rattle.slot.specs.Unprotect.{Clean}
 
 -- protecting made `sent` of the frame and the request q; unprotecting was lent `slot`, and answered the number, the frame `new`, the request r and the count n
@@ -14,6 +14,11 @@ pub record DemandThree (size mode q : ℕ) (frame sent slot new : List ℕ) (num
   pub repairs : AtMost (mode - 1) size slot sent → (number ≡ 0) × (new ≡ frame) × (r ≡ q) × (n ≡ changes size slot sent)
   -- with at most 2m - 2 in each word: called clean exactly when nothing was changed
   pub clean : AtMost (2 * mode - 2) size slot sent → Clean number n ↔ (changes size slot sent ≡ 0)
+
+-- what stands in the slot's buffer is what protecting leaves there, with some number
+pub record Sends (size mode q : ℕ) (frame lent sent : List ℕ) : Type 0 where
+  pub number : ℕ
+  pub protects : Protects size mode q frame lent sent number
 
 -- a call of protecting and one of unprotecting, of one size and mode, of which neither gets 1 or 2
 abbrev pub Carried : ℕ → ℕ → ℕ → List ℕ → List ℕ → List ℕ → List ℕ → List ℕ → List ℕ → ℕ → ℕ → ℕ → Type 0

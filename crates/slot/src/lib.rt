@@ -8,7 +8,7 @@ ghost use Rattle.slot.specs.Sizes.{InRange, IsFrameSize, frameSize};
 ghost use Rattle.slot.specs.Order.{Data};
 ghost use Rattle.slot.specs.Protect as protecting;
 ghost use Rattle.slot.specs.Unprotect as unprotecting;
-ghost use Rattle.slot.specs.Demand.{Carried};
+ghost use Rattle.slot.specs.Demand.{Sends, Carried};
 ghost use Rattle.slot.specs.Back.{requestIn};
 ghost use Rattle.slot.specs.Inner.{IsDelivered};
 
@@ -166,6 +166,8 @@ pub fn carry(
     slot: &[u8],
     out: &mut [u8],
 ) -> Reception
+    ensures { λ r. ⌜ Sends size mode request (now (frame .entry)) (now (sent .entry)) (now (sent .exit)) ⌝ }
+    ensures { λ r. ⌜ unprotecting.Unprotects size mode (now (slot .entry)) (now (out .entry)) (now (out .exit)) (unprotecting.numberOf r) (unprotecting.requestOf r) (unprotecting.countOf r) ⌝ }
     ensures { λ r. ⌜ Carried size mode request (now (frame .entry)) (now (sent .entry)) (now (sent .exit)) (now (slot .entry)) (now (out .entry)) (now (out .exit)) (unprotecting.numberOf r) (unprotecting.requestOf r) (unprotecting.countOf r) ⌝ }
 {
     protect(size, mode, request, frame, sent);

@@ -23,7 +23,15 @@ returns c =
     let a = c .before .before .before .before .before .before .before .before .before .before .before .before .args in
     let p = c .before .before .before .before .before .before .protect in
     let u = c .before .before .unprotect in
-    λ s l k. carried (a .size) (a .mode) (a .request) (a .frame .now) (a .sent .now) (p .last .1 .1 .1 .1 .0) (a .slot .now) (a .out .now) (u .last .1 .1 .1 .0) (protectionNumber (p .result)) (numberOf (u .result)) (requestOf (u .result)) (countOf (u .result)) (p .ensures) (λ i. c .before .before .before .before .before .before .before .before .before .shared-slice-known2 .given i .fits) (u .ensures) s l k
+    let w = c .before .before .before .before .before .before .before .before .before .shared-slice-known2 in (
+      record { number = protectionNumber (p .result); protects = p .ensures },
+      (
+        u .ensures,
+        λ s l k.
+            carried (a .size) (a .mode) (a .request) (a .frame .now) (a .sent .now) (p .last .1 .1 .1 .1 .0) (a .slot .now) (a .out .now) (u .last .1 .1 .1 .0)
+            (protectionNumber (p .result)) (numberOf (u .result)) (requestOf (u .result)) (countOf (u .result)) (p .ensures) (λ i. w .given i .fits) (u .ensures) s l k,
+      ),
+    )
 
 pub carry-spec : {M : Type 1} → statement M
 carry-spec =
