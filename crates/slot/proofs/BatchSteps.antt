@@ -230,12 +230,42 @@ module _ (size mode i at n e : ℕ) (old : List ℕ) (range : InRange size mode)
       let s = end-is in
       omega arith
 
-  room-is : length (midOf at (e - at) old) ≡ dataLength size mode i
+  pub room-is : length (midOf at (e - at) old) ≡ dataLength size mode i
   room-is =
       let d = length-drop at old in
       let b = before-end in
       let s = end-is in
       length-take-le (e - at) (drop at old) (omega arith) ∙ omega arith
+
+  -- last, as long as the room, in its place
+  module _ (last : List ℕ) (last-long : length last ≡ dataLength size mode i) (below-last : Below 16 last) where
+    pub new-data : Data size mode (putMid at (e - at) old last)
+    new-data = record {
+      long = same-len-mid at (e - at) old last (last-long ∙ sym room-is) ∙ given .long;
+      below =
+          below-append 16 (take at old) (last ++ drop (e - at) (drop at old)) (below-take 16 at old (omega arith) (given .below))
+          (below-append 16 last (drop (e - at) (drop at old)) below-last
+          (below-drop 16 (e - at) (drop at old) (below-drop 16 at old (given .below))));
+    }
+
+    front-long : length (take at old) ≡ at
+    front-long = let b = before-end in length-take-le at old (omega arith)
+
+    pub new-word : dataWord size mode (putMid at (e - at) old last) i ≡ last
+    unfolding dataWord piece
+    new-word =
+        ap (λ (n : ℕ). take (dataLength size mode i) (drop n (putMid at (e - at) old last))) (sym start)
+        ∙ ap (take (dataLength size mode i)) (drop-at (take at old) (last ++ drop (e - at) (drop at old)) at front-long)
+        ∙ take-at last (drop (e - at) (drop at old)) (dataLength size mode i) last-long
+
+    pub same-words-before : (j : ℕ) → j < i → dataWord size mode (putMid at (e - at) old last) j ≡ dataWord size mode old j
+    unfolding dataWord
+    same-words-before j l =
+        let u = total-up (dataLength size mode) (suc j) i l in
+        let b : total (dataLength size mode) (suc j) ≤ length (take at old) = omega (arith, front-long) in
+        piece-front (dataLength size mode) (take at old) (last ++ drop (e - at) (drop at old)) j b
+        ∙ sym (piece-front (dataLength size mode) (take at old) (drop at old) j b)
+        ∙ ap (λ (s : List ℕ). piece (dataLength size mode) s j) (take-append-drop at old)
 
   module _ (from : ℕ) (all counts : List ℕ) (small : Below 16 all) (from-is : from ≡ total (wordLength size) i) (long : length all ≡ 2 * size) where
     ends-in : total (wordLength size) (suc i) ≤ length all
@@ -278,39 +308,10 @@ module _ (size mode i at n e : ℕ) (old : List ℕ) (range : InRange size mode)
       unfolding piece
       below-last = rw last-is (below-drop 16 (2 * (mode - 1)) word (below-take 16 (wordLength size i) (drop (total (wordLength size) i) all) (omega arith) (below-drop 16 (total (wordLength size) i) all small)))
 
-      new-data : Data size mode (putMid at (e - at) old last)
-      new-data = record {
-        long = same-len-mid at (e - at) old last (last-long ∙ sym room-is) ∙ given .long;
-        below =
-            below-append 16 (take at old) (last ++ drop (e - at) (drop at old)) (below-take 16 at old (omega arith) (given .below))
-            (below-append 16 last (drop (e - at) (drop at old)) below-last
-            (below-drop 16 (e - at) (drop at old) (below-drop 16 at old (given .below))));
-      }
-
-      front-long : length (take at old) ≡ at
-      front-long = let b = before-end in length-take-le at old (omega arith)
-
-      new-word : dataWord size mode (putMid at (e - at) old last) i ≡ drop (2 * (mode - 1)) word
-      unfolding dataWord piece
-      new-word =
-          ap (λ (n : ℕ). take (dataLength size mode i) (drop n (putMid at (e - at) old last))) (sym start)
-          ∙ ap (take (dataLength size mode i)) (drop-at (take at old) (last ++ drop (e - at) (drop at old)) at front-long)
-          ∙ take-at last (drop (e - at) (drop at old)) (dataLength size mode i) last-long
-          ∙ last-is
-
-      same-words-before : (j : ℕ) → j < i → dataWord size mode (putMid at (e - at) old last) j ≡ dataWord size mode old j
-      unfolding dataWord
-      same-words-before j l =
-          let u = total-up (dataLength size mode) (suc j) i l in
-          let b : total (dataLength size mode) (suc j) ≤ length (take at old) = omega (arith, front-long) in
-          piece-front (dataLength size mode) (take at old) (last ++ drop (e - at) (drop at old)) j b
-          ∙ sym (piece-front (dataLength size mode) (take at old) (drop at old) j b)
-          ∙ ap (λ (s : List ℕ). piece (dataLength size mode) s j) (take-append-drop at old)
-
       pub gathered-next : (sum count : ℕ) → GatheredTo size mode all counts old i sum → count ≡ getD counts i 0 → count < mode
           → GatheredTo size mode all counts (putMid at (e - at) old last) (i + 1) (sum + count)
       gathered-next sum count g c l = record {
-        given = new-data;
+        given = new-data last last-long below-last;
         each = λ j h. each-next j h (eqb j i) refl;
         few = λ j h. few-next j h (eqb j i) refl;
         counted =
@@ -320,11 +321,11 @@ module _ (size mode i at n e : ℕ) (old : List ℕ) (range : InRange size mode)
       }
         where
           each-next : (j : ℕ) → j < i + 1 → (b : Bool) → eqb j i ≡ b → dataWord size mode (putMid at (e - at) old last) j ≡ drop (2 * (mode - 1)) (piece (wordLength size) all j)
-          each-next j h true t = rw (eqb-true j i t) new-word
+          each-next j h true t = rw (eqb-true j i t) (new-word last last-long below-last ∙ last-is)
           each-next j h false t =
               let d : (j ≡ i → ⊥) = eqb-false j i t in
               let k : j < i = omega arith in
-              same-words-before j k ∙ g .each j k
+              same-words-before last last-long below-last j k ∙ g .each j k
 
           few-next : (j : ℕ) → j < i + 1 → (b : Bool) → eqb j i ≡ b → getD counts j 0 < mode
           few-next j h true t = rw (eqb-true j i t) (rw c at l)

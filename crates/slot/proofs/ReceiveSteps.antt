@@ -1,4 +1,4 @@
--- What the code of unprotecting asks: a word received, the frame put together, and the answer from them.
+-- What the code of unprotecting asks: a slot unpacked, a word received, the frame put together, and the answer from them.
 -- Assumes nothing.
 use mathlib.Core.Path.{_≡_, refl, sym, ap, ap₂, _∙_}
 use mathlib.Core.Bool.{Bool, true, false, true≢false}

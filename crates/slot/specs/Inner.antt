@@ -4,7 +4,7 @@ use mathlib.Core.Path.{_≡_}
 use mathlib.Core.Bool.{Bool, true, false}
 use mathlib.Core.List.{List}
 use Prim.Native.Nat.{ℕ, zero, suc, _+_, _-_, _*_, _/_, _%_, _^_, _≤_, _<_}
-use lib.ListN.{length, getD, drop}
+use lib.ListN.{length, getD, take, drop}
 use Rattle.laws.specs.Tab.{tab, total, Below}
 use Rattle.gf16.specs.Field.{sum}
 use Rattle.code_word.specs.Word.{apart}
@@ -100,3 +100,14 @@ pub record AllArrived (size mode : ℕ) (places all : List ℕ) : Type 0 where
 -- the answer for the slot of these semi-octets
 abbrev pub IsRepairFrom : ℕ → ℕ → List ℕ → List ℕ → Repair → Type 0
 IsRepairFrom size mode places info r = (slot : List ℕ) → length slot ≡ size → places ≡ unpacked slot → IsRepair size mode slot info r
+
+-- the check semi-octets of word i as received, and the data behind them
+abbrev pub checksFrom : ℕ → ℕ → List ℕ → ℕ → List ℕ
+checksFrom size mode places i = take (2 * (mode - 1)) (wordFrom size mode places i)
+
+abbrev pub dataFrom : ℕ → ℕ → List ℕ → ℕ → List ℕ
+dataFrom size mode places i = drop (2 * (mode - 1)) (wordFrom size mode places i)
+
+-- the first n words as received are the code words over the data
+abbrev pub AllClean : ℕ → ℕ → List ℕ → List ℕ → ℕ → Type 0
+AllClean size mode places info n = (j : ℕ) → j < n → codeWord size mode info j ≡ wordFrom size mode places j

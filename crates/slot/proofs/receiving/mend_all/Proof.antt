@@ -1,4 +1,4 @@
--- `slot::receiving::mend_all` meets its contract. The semi-octets lent to the repair are those of the slot. Assumes nothing.
+-- `slot::receiving::mend_all` meets its contract. The semi-octets that it lends are those of the slot. Assumes nothing.
 use mathlib.Core.Path.{sym, _∙_}
 use Prim.Native.Nat.{_*_}
 use native.Mathlib.Omega.{arith}
@@ -7,6 +7,7 @@ use lib.Seq.{length-take-le, length-front}
 use borrow.Author.Needs.{needs}
 use Rattle.slot.proofs.ProtectSteps.{blanks}
 use Rattle.slot.proofs.ReceiveSteps.{lent-is, lent-long, lent-below}
+use Rattle.slot.proofs.CleanSteps.{clean-slot}
 use Rattle.slot.proofs.receiving.mend_all.Statement.{statement}
 use Rattle.slot.proofs.receiving.mend_all.Tie as tie
 
@@ -34,14 +35,14 @@ array-share-prefix-places c =
     let l = length-front blanks (u .last .1 .0) (2 * s .args .size) (u .kept .1 .0) in
     omega (arith, s .pre .0 .size-to)
 
-slice-aggregate-repair : tie.Need-slice-aggregate-repair
-slice-aggregate-repair c =
+slice-aggregate-clean : tie.Need-slice-aggregate-clean
+slice-aggregate-clean c =
     let s = c .before .before .before .before .before .before in
     let u = c .before .before .unpack in
     sym (lent-long (s .args .size) (s .args .slot .now) (u .last .1 .0) (drop (2 * s .args .size) blanks) (s .pre .1) (u .ensures))
 
-repair-requires : tie.Need-repair-requires
-repair-requires c κs =
+clean-requires : tie.Need-clean-requires
+clean-requires c κs =
     let s = c .before .before .before .before .before .before .before in
     let u = c .before .before .before .unpack in
     let n = s .args .size in
@@ -57,8 +58,48 @@ same-length c = search needs
 
 returns : tie.Need-returns
 returns c =
-    let s = c .before .before .before .before .before .before .before .before .before .before in
-    let u = c .before .before .before .before .before .before .unpack in
+    let s = c .before .before .before .before .before .before .before .before .before .before .before in
+    let a = s .args in
+    let u = c .before .before .before .before .before .before .before .unpack in
+    let m = c .before .before .before .clean in
+    clean-slot (a .size) (a .mode) (a .slot .now) _ (m .last .1 .1 .1 .0) (s .pre .0) (s .pre .1)
+    (lent-is (a .size) (a .slot .now) (u .last .1 .0) (drop (2 * a .size) blanks) (s .pre .1) (u .ensures)) (m .ensures .0) (m .ensures .1 (c .if1 .taken))
+
+mul-places-3 : tie.Need-mul-places-3
+mul-places-3 c = search needs
+
+array-share-prefix-places-2 : tie.Need-array-share-prefix-places-2
+array-share-prefix-places-2 c =
+    let s = c .before .before .before .before .before .before .before .before .before .before .before in
+    let u = c .before .before .before .before .before .before .before .unpack in
+    let l = length-front blanks (u .last .1 .0) (2 * s .args .size) (u .kept .1 .0) in
+    omega (arith, s .pre .0 .size-to)
+
+slice-aggregate-repair : tie.Need-slice-aggregate-repair
+slice-aggregate-repair c =
+    let s = c .before .before .before .before .before .before .before .before .before .before .before .before in
+    let u = c .before .before .before .before .before .before .before .before .unpack in
+    sym (lent-long (s .args .size) (s .args .slot .now) (u .last .1 .0) (drop (2 * s .args .size) blanks) (s .pre .1) (u .ensures))
+
+repair-requires : tie.Need-repair-requires
+repair-requires c κs =
+    let s = c .before .before .before .before .before .before .before .before .before .before .before .before .before in
+    let u = c .before .before .before .before .before .before .before .before .before .unpack in
+    let n = s .args .size in
+    let rest = drop (2 * n) blanks in (
+      s .pre .0,
+      lent-long n (s .args .slot .now) (u .last .1 .0) rest (s .pre .1) (u .ensures),
+      lent-below n (s .args .slot .now) (u .last .1 .0) rest (s .pre .1) (u .ensures),
+      c .before .before .before .before .before .clean .ensures .0,
+    )
+
+same-length-2 : tie.Need-same-length-2
+same-length-2 c = search needs
+
+returns-2 : tie.Need-returns-2
+returns-2 c =
+    let s = c .before .before .before .before .before .before .before .before .before .before .before .before .before .before .before .before in
+    let u = c .before .before .before .before .before .before .before .before .before .before .before .before .unpack in
     let n = s .args .size in
     c .before .before .repair .ensures (s .args .slot .now) (s .pre .1)
     (lent-is n (s .args .slot .now) (u .last .1 .0) (drop (2 * n) blanks) (s .pre .1) (u .ensures))
@@ -73,7 +114,13 @@ mend-all-spec =
     unpack-requires
     mul-places-2
     array-share-prefix-places
+    slice-aggregate-clean
+    clean-requires
+    same-length
+    returns
+    mul-places-3
+    array-share-prefix-places-2
     slice-aggregate-repair
     repair-requires
-    same-length
-    returns)
+    same-length-2
+    returns-2)

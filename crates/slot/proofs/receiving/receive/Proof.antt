@@ -3,7 +3,7 @@ use Rattle.slot.proofs.ReceiveSteps.{arrived, arrived-next, arrived-las
 use Rattle.slot.proofs.PlaceSteps.{place-below, place-is}
 use Rattle.slot.proofs.Sizes.{length-high}
 use Rattle.laws.proofs.Fill.{Filled, filled-first}
-use lib.ListN.{length, getD}
+use lib.ListN.{length}
 use native.Mathlib.Omega.{arith}
 use mathlib.Core.Path.{_≡_, refl}
 use Prim.Native.Nat.{_≤_, _<_, _-_, _+_, _*_}
@@ -25,12 +25,13 @@ loop-holds c =
     let a = c .before .before .before .before .args in
     (omega arith, refl, filled-first (arrived (a .size) (a .mode) (a .places .now) (a .i)) (length (a .w .now)) (a .w .now) refl)
 
+abbrev begin : tie.In-loop Inv-loop μ-loop → tie.Start Inv-loop μ-loop
+begin c = c .before .before .before .before .before .before
+
 -- the place of the semi-octet that is taken is one
-below : (c : tie.In-loop Inv-loop μ-loop)
-    → c .before .before .word-count .result * c .before .loop .k + c .before .before .before .before .before .before .args .i
-    < 2 * c .before .before .before .before .before .before .args .size
+below : (c : tie.In-loop Inv-loop μ-loop) → c .before .before .word-count .result * c .before .loop .k + begin c .args .i < 2 * begin c .args .size
 below c =
-    let s = c .before .before .before .before .before .before in
+    let s = begin c in
     let h = c .before in
     place-below (s .args .size) _ (s .args .i) (h .loop .k) (s .pre .0 .size-from) (h .before .word-count .ensures .0) (s .pre .1) (omega arith)
 
@@ -50,11 +51,11 @@ sub-w-3 : tie.Need-sub-w-3 Inv-loop μ-loop
 sub-w-3 c = let b = below c in omega arith
 
 shared-slice-read-w : tie.Need-shared-slice-read-w Inv-loop μ-loop
-shared-slice-read-w c = let b = below (c .before) in omega (arith, c .before .before .before .before .before .before .before .pre .2)
+shared-slice-read-w c = let b = below (c .before) in omega (arith, begin (c .before) .pre .2)
 
 shared-slice-read-w-2 : tie.Need-shared-slice-read-w-2 Inv-loop μ-loop
 shared-slice-read-w-2 c =
-    let s = c .before .before .before .before .before .before .before .before in
+    let s = begin (c .before .before) in
     let l = length-high (s .args .size) (s .args .i) (s .pre .0 .size-from) in
     omega (arith, s .pre .3, s .pre .4, c .before .before .loop-test .taken, c .before .before .before .loop .inv .1)
 
@@ -69,7 +70,7 @@ loop-less c = search needs
 
 loop-again : tie.Need-loop-again Inv-loop μ-loop
 loop-again c =
-    let s = c .before .before .before .before .before .before .before .before in
+    let s = begin (c .before .before) in
     let h = c .before .before .before in
     let a = s .args in
     let p = place-is (a .size) (h .before .word-count .result) (a .i) (h .loop .k) (h .before .word-count .ensures .0) in
