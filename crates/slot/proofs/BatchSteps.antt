@@ -25,13 +25,14 @@ use Rattle.slot.specs.Sizes.{InRange, words, wordLength, dataLength}
 use Rattle.slot.specs.Words.{piece, dataWord}
 use Rattle.slot.specs.Order.{Data}
 use Rattle.slot.specs.Slot.{codeWord, wordIn}
-use Rattle.slot.specs.Inner.{AllArrived, GatheredTo, IsGathered, IsRepair}
+use Rattle.slot.specs.Inner.{unpacked, wordFrom, AllArrived, GatheredTo, IsGathered, IsRepairFrom}
 use Rattle.slot.specs.declared.Repair.{Repair}
 use Rattle.slot.specs.declared.Repair.the-variants.{Repaired, Beyond}
 use Rattle.slot.proofs.Sizes.{words-low, length-share, lengths, length-low, length-high, checks-fit, data-lengths}
 use Rattle.slot.proofs.Semi.{semi-octets-of, below-of}
-use Rattle.slot.proofs.Words.{joined, below-joined, length-piece, joined-piece, piece-front, piece-joined}
+use Rattle.slot.proofs.Words.{joined, below-joined, length-piece, below-piece, joined-piece, piece-front, piece-joined}
 use Rattle.slot.proofs.Slot.{words-in}
+use Rattle.slot.proofs.ReceiveSteps.{length-from, words-from, word-from}
 
 -- ---- the lengths and the places of the words in one row
 
@@ -84,20 +85,20 @@ next-from size i from n e l =
 -- ---- the words as received, one after the other
 
 -- the first i words stand in front
-pub record ArrivedTo (size mode : ℕ) (slot : List ℕ) (i at : ℕ) (all : List ℕ) : Type 0 where
+pub record ArrivedTo (size mode : ℕ) (places : List ℕ) (i at : ℕ) (all : List ℕ) : Type 0 where
   pub place : at ≡ total (wordLength size) i
   pub long : length all ≡ 2 * size
-  pub front : take at all ≡ joined (wordIn size mode slot) i
+  pub front : take at all ≡ joined (wordFrom size mode places) i
 
-pub arrived-none : (size mode : ℕ) (slot all : List ℕ) → length all ≡ 2 * size → ArrivedTo size mode slot 0 0 all
+pub arrived-none : (size mode : ℕ) (places all : List ℕ) → length all ≡ 2 * size → ArrivedTo size mode places 0 0 all
 unfolding joined
-arrived-none size mode slot all l = record { place = sym (total-none (wordLength size)); long = l; front = refl }
+arrived-none size mode places all l = record { place = sym (total-none (wordLength size)); long = l; front = refl }
 
 two-in-front : (a b : ℕ) (xs ys zs : List ℕ) → length xs ≡ a → length ys ≡ b → take (a + b) (xs ++ (ys ++ zs)) ≡ xs ++ ys
 two-in-front a b xs ys zs e f =
     ap (take (a + b)) (sym (append-assoc xs ys zs)) ∙ take-at (xs ++ ys) zs (a + b) (length-append xs ys ∙ ap₂ (λ (x y : ℕ). x + y) e f)
 
-module _ (size mode i at n e : ℕ) (slot all : List ℕ) (range : InRange size mode) (inside : i < words size) (arrived : ArrivedTo size mode slot i at all)
+module _ (size mode i at n e : ℕ) (places all : List ℕ) (range : InRange size mode) (inside : i < words size) (arrived : ArrivedTo size mode places i at all)
     (long : n ≡ wordLength size i) (end : e ≡ at + n) where
   pub arrives-end : e ≤ 2 * size
   arrives-end =
@@ -114,11 +115,10 @@ module _ (size mode i at n e : ℕ) (slot all : List ℕ) (range : InRange size 
       let l = arrived .long in
       length-take-le (e - at) (drop at all) (omega arith) ∙ omega arith
 
-  pub arrived-one : (last : List ℕ) → last ≡ wordIn size mode slot i → ArrivedTo size mode slot (i + 1) e (putMid at (e - at) all last)
+  pub arrived-one : (last : List ℕ) → last ≡ wordFrom size mode places i → ArrivedTo size mode places (i + 1) e (putMid at (e - at) all last)
   unfolding joined
   arrived-one last is =
-      let w = words-in size mode slot range .long i inside in
-      let k : length last ≡ wordLength size i = ap (λ (x : List ℕ). length x) is ∙ w in
+      let k : length last ≡ wordLength size i = ap (λ (x : List ℕ). length x) is ∙ length-from size mode places i in
       let b = arrives-end in
       let l = arrived .long in
       record {
@@ -128,32 +128,36 @@ module _ (size mode i at n e : ℕ) (slot all : List ℕ) (range : InRange size 
             ap (λ (x : ℕ). take x (putMid at (e - at) all last)) end
             ∙ two-in-front at n (take at all) last (drop (e - at) (drop at all)) (length-take-le at all (omega arith)) (k ∙ sym long)
             ∙ ap₂ (λ (x y : List ℕ). x ++ y) (arrived .front) is
-            ∙ ap (joined (wordIn size mode slot)) (sym (add-one i));
+            ∙ ap (joined (wordFrom size mode places)) (sym (add-one i));
       }
 
-pub arrived-all : (size mode i at : ℕ) (slot all : List ℕ) → InRange size mode → i ≡ words size → ArrivedTo size mode slot i at all → AllArrived size mode slot all
-arrived-all size mode i at slot all r e k =
-    let w = words-in size mode slot r in
+pub arrived-all : (size mode i at : ℕ) (places all : List ℕ) → InRange size mode → Below 16 places → i ≡ words size → ArrivedTo size mode places i at all
+    → AllArrived size mode places all
+arrived-all size mode i at places all r b e k =
+    let w = words-from size mode places b in
     let t : at ≡ 2 * size = k .place ∙ ap (total (wordLength size)) e ∙ lengths size (r .size-from) in
     let l = k .long in
-    let g : all ≡ joined (wordIn size mode slot) (words size) =
-    sym (take-all at all (omega arith)) ∙ k .front ∙ ap (joined (wordIn size mode slot)) e in
+    let g : all ≡ joined (wordFrom size mode places) (words size) =
+    sym (take-all at all (omega arith)) ∙ k .front ∙ ap (joined (wordFrom size mode places)) e in
     record {
       long = k .long;
-      below = rw g (below-joined 16 (wordIn size mode slot) (words size) (omega arith) (λ i l. w .below i l));
-      each = λ i l. ap (λ (x : List ℕ). piece (wordLength size) x i) g ∙ piece-joined (wordIn size mode slot) (wordLength size) (words size) i l (λ j m. w .long j m);
+      below = rw g (below-joined 16 (wordFrom size mode places) (words size) (omega arith) (λ i l. w .below i l));
+      each = λ i l.
+          ap (λ (x : List ℕ). piece (wordLength size) x i) g
+          ∙ piece-joined (wordFrom size mode places) (wordLength size) (words size) i l (λ j m. w .long j m);
     }
 
 -- ---- all words corrected in one call
 
 -- what is left of each word, and its count
-pub record Answered (size mode : ℕ) (slot all counts : List ℕ) : Type 0 where
+pub record Answered (size mode : ℕ) (places all counts : List ℕ) : Type 0 where
   pub long : length all ≡ 2 * size
   pub below : Below 16 all
   pub many : length counts ≡ words size
-  pub each : (i : ℕ) → i < words size → Mended mode (wordIn size mode slot i) (piece (wordLength size) all i) (getD counts i 0)
+  pub each : (i : ℕ) → i < words size → Mended mode (wordFrom size mode places i) (piece (wordLength size) all i) (getD counts i 0)
 
-module _ (size mode : ℕ) (slot old room : List ℕ) (range : InRange size mode) (arrived : AllArrived size mode slot old) (some : length room ≡ words size) where
+module _ (size mode : ℕ) (places old room : List ℕ) (range : InRange size mode) (arrived : AllArrived size mode places old)
+    (some : length room ≡ words size) where
   batch : Batch mode old room
   batch = record {
     some = omega (arith, some, words-low size (range .size-from));
@@ -173,7 +177,7 @@ module _ (size mode : ℕ) (slot old room : List ℕ) (range : InRange size mode
   each-answered new counts (suc (suc n)) c = absurd c
 
   module _ (new counts : List ℕ) (corrected : AllCorrected mode old room new counts) where
-    each-mended : (i : ℕ) → i < words size → Mended mode (wordIn size mode slot i) (piece (wordLength size) new i) (getD counts i 0)
+    each-mended : (i : ℕ) → i < words size → Mended mode (wordFrom size mode places i) (piece (wordLength size) new i) (getD counts i 0)
     each-mended i l =
         let m = corrected .as-many ∙ some in
         let a = word-at size i (length counts) old (range .size-from) l (arrived .long) m ∙ arrived .each i l in
@@ -183,10 +187,10 @@ module _ (size mode : ℕ) (slot old room : List ℕ) (range : InRange size mode
     mended-below : (i : ℕ) → i < words size → (b : Bool) → ltb (getD counts i 0) mode ≡ b → Below 16 (piece (wordLength size) new i)
     mended-below i l true e = below-of (piece (wordLength size) new i) (each-mended i l .found (ltb-true (getD counts i 0) mode e) .semi-octets)
     mended-below i l false e =
-        let k = each-mended i l .kept (ltb-false (getD counts i 0) mode e) in
-        rw k (words-in size mode slot range .below i l)
+        let k = each-mended i l .kept (ltb-false (getD counts i 0) mode e) ∙ sym (arrived .each i l) in
+        rw k (below-piece 16 (wordLength size) old i (omega arith) (arrived .below))
 
-  pub answered : (new counts : List ℕ) (number : ℕ) → CorrectsEach mode old room new counts number → Answered size mode slot new counts
+  pub answered : (new counts : List ℕ) (number : ℕ) → CorrectsEach mode old room new counts number → Answered size mode places new counts
   answered new counts number c =
       let a = each-answered new counts number c in
       let l : length new ≡ 2 * size = a .as-long ∙ arrived .long in
@@ -226,12 +230,42 @@ module _ (size mode i at n e : ℕ) (old : List ℕ) (range : InRange size mode)
       let s = end-is in
       omega arith
 
-  room-is : length (midOf at (e - at) old) ≡ dataLength size mode i
+  pub room-is : length (midOf at (e - at) old) ≡ dataLength size mode i
   room-is =
       let d = length-drop at old in
       let b = before-end in
       let s = end-is in
       length-take-le (e - at) (drop at old) (omega arith) ∙ omega arith
+
+  -- last, as long as the room, in its place
+  module _ (last : List ℕ) (last-long : length last ≡ dataLength size mode i) (below-last : Below 16 last) where
+    pub new-data : Data size mode (putMid at (e - at) old last)
+    new-data = record {
+      long = same-len-mid at (e - at) old last (last-long ∙ sym room-is) ∙ given .long;
+      below =
+          below-append 16 (take at old) (last ++ drop (e - at) (drop at old)) (below-take 16 at old (omega arith) (given .below))
+          (below-append 16 last (drop (e - at) (drop at old)) below-last
+          (below-drop 16 (e - at) (drop at old) (below-drop 16 at old (given .below))));
+    }
+
+    front-long : length (take at old) ≡ at
+    front-long = let b = before-end in length-take-le at old (omega arith)
+
+    pub new-word : dataWord size mode (putMid at (e - at) old last) i ≡ last
+    unfolding dataWord piece
+    new-word =
+        ap (λ (n : ℕ). take (dataLength size mode i) (drop n (putMid at (e - at) old last))) (sym start)
+        ∙ ap (take (dataLength size mode i)) (drop-at (take at old) (last ++ drop (e - at) (drop at old)) at front-long)
+        ∙ take-at last (drop (e - at) (drop at old)) (dataLength size mode i) last-long
+
+    pub same-words-before : (j : ℕ) → j < i → dataWord size mode (putMid at (e - at) old last) j ≡ dataWord size mode old j
+    unfolding dataWord
+    same-words-before j l =
+        let u = total-up (dataLength size mode) (suc j) i l in
+        let b : total (dataLength size mode) (suc j) ≤ length (take at old) = omega (arith, front-long) in
+        piece-front (dataLength size mode) (take at old) (last ++ drop (e - at) (drop at old)) j b
+        ∙ sym (piece-front (dataLength size mode) (take at old) (drop at old) j b)
+        ∙ ap (λ (s : List ℕ). piece (dataLength size mode) s j) (take-append-drop at old)
 
   module _ (from : ℕ) (all counts : List ℕ) (small : Below 16 all) (from-is : from ≡ total (wordLength size) i) (long : length all ≡ 2 * size) where
     ends-in : total (wordLength size) (suc i) ≤ length all
@@ -274,39 +308,10 @@ module _ (size mode i at n e : ℕ) (old : List ℕ) (range : InRange size mode)
       unfolding piece
       below-last = rw last-is (below-drop 16 (2 * (mode - 1)) word (below-take 16 (wordLength size i) (drop (total (wordLength size) i) all) (omega arith) (below-drop 16 (total (wordLength size) i) all small)))
 
-      new-data : Data size mode (putMid at (e - at) old last)
-      new-data = record {
-        long = same-len-mid at (e - at) old last (last-long ∙ sym room-is) ∙ given .long;
-        below =
-            below-append 16 (take at old) (last ++ drop (e - at) (drop at old)) (below-take 16 at old (omega arith) (given .below))
-            (below-append 16 last (drop (e - at) (drop at old)) below-last
-            (below-drop 16 (e - at) (drop at old) (below-drop 16 at old (given .below))));
-      }
-
-      front-long : length (take at old) ≡ at
-      front-long = let b = before-end in length-take-le at old (omega arith)
-
-      new-word : dataWord size mode (putMid at (e - at) old last) i ≡ drop (2 * (mode - 1)) word
-      unfolding dataWord piece
-      new-word =
-          ap (λ (n : ℕ). take (dataLength size mode i) (drop n (putMid at (e - at) old last))) (sym start)
-          ∙ ap (take (dataLength size mode i)) (drop-at (take at old) (last ++ drop (e - at) (drop at old)) at front-long)
-          ∙ take-at last (drop (e - at) (drop at old)) (dataLength size mode i) last-long
-          ∙ last-is
-
-      same-words-before : (j : ℕ) → j < i → dataWord size mode (putMid at (e - at) old last) j ≡ dataWord size mode old j
-      unfolding dataWord
-      same-words-before j l =
-          let u = total-up (dataLength size mode) (suc j) i l in
-          let b : total (dataLength size mode) (suc j) ≤ length (take at old) = omega (arith, front-long) in
-          piece-front (dataLength size mode) (take at old) (last ++ drop (e - at) (drop at old)) j b
-          ∙ sym (piece-front (dataLength size mode) (take at old) (drop at old) j b)
-          ∙ ap (λ (s : List ℕ). piece (dataLength size mode) s j) (take-append-drop at old)
-
       pub gathered-next : (sum count : ℕ) → GatheredTo size mode all counts old i sum → count ≡ getD counts i 0 → count < mode
           → GatheredTo size mode all counts (putMid at (e - at) old last) (i + 1) (sum + count)
       gathered-next sum count g c l = record {
-        given = new-data;
+        given = new-data last last-long below-last;
         each = λ j h. each-next j h (eqb j i) refl;
         few = λ j h. few-next j h (eqb j i) refl;
         counted =
@@ -316,11 +321,11 @@ module _ (size mode i at n e : ℕ) (old : List ℕ) (range : InRange size mode)
       }
         where
           each-next : (j : ℕ) → j < i + 1 → (b : Bool) → eqb j i ≡ b → dataWord size mode (putMid at (e - at) old last) j ≡ drop (2 * (mode - 1)) (piece (wordLength size) all j)
-          each-next j h true t = rw (eqb-true j i t) new-word
+          each-next j h true t = rw (eqb-true j i t) (new-word last last-long below-last ∙ last-is)
           each-next j h false t =
               let d : (j ≡ i → ⊥) = eqb-false j i t in
               let k : j < i = omega arith in
-              same-words-before j k ∙ g .each j k
+              same-words-before last last-long below-last j k ∙ g .each j k
 
           few-next : (j : ℕ) → j < i + 1 → (b : Bool) → eqb j i ≡ b → getD counts j 0 < mode
           few-next j h true t = rw (eqb-true j i t) (rw c at l)
@@ -352,10 +357,18 @@ code-of size mode i slot info word r l n h =
     ∙ sym (coded-only (distance mode) (drop (2 * mode - 1 - 1) word) word (omega (arith, r .mode-from)) (omega (arith, long)) s
     (record { semi-octets = n .semi-octets; long = long ∙ omega (arith, long); holds = refl; valid = n .valid }))
 
-pub repaired : (size mode : ℕ) (slot all counts info : List ℕ) (r : Repair) → InRange size mode → Answered size mode slot all counts
-    → IsGathered size mode all counts info r → IsRepair size mode slot info r
-repaired size mode slot all counts info (Repaired n) r a g =
-    let near : (j : ℕ) → j < words size → Near mode (wordIn size mode slot j) (piece (wordLength size) all j) = λ j l. a .each j l .found (g .few j l) in
+-- .. of the slot that was unpacked
+each-of : (size mode : ℕ) (slot places all counts : List ℕ) → InRange size mode → Answered size mode places all counts
+    → length slot ≡ size → places ≡ unpacked slot
+    → (j : ℕ) → j < words size → Mended mode (wordIn size mode slot j) (piece (wordLength size) all j) (getD counts j 0)
+each-of size mode slot places all counts r a e p j l =
+    subst (λ (w : List ℕ). Mended mode w (piece (wordLength size) all j) (getD counts j 0)) (word-from size mode slot places j (r .size-from) e p) (a .each j l)
+
+pub repaired : (size mode : ℕ) (places all counts info : List ℕ) (r : Repair) → InRange size mode → Answered size mode places all counts
+    → IsGathered size mode all counts info r → IsRepairFrom size mode places info r
+repaired size mode places all counts info (Repaired n) r a g slot e p =
+    let each = each-of size mode slot places all counts r a e p in
+    let near : (j : ℕ) → j < words size → Near mode (wordIn size mode slot j) (piece (wordLength size) all j) = λ j l. each j l .found (g .few j l) in
     let code : (j : ℕ) → j < words size → codeWord size mode info j ≡ piece (wordLength size) all j =
     λ j l. code-of size mode j slot info (piece (wordLength size) all j) r l (near j l) (g .each j l) in
     record {
@@ -364,7 +377,8 @@ repaired size mode slot all counts info (Repaired n) r a g =
       counted =
           g .counted
           ∙ total-same (λ j. getD counts j 0) (λ j. apart (wordIn size mode slot j) (codeWord size mode info j)) (words size)
-          (λ j l. a .each j l .counted (g .few j l) ∙ ap (apart (wordIn size mode slot j)) (sym (code j l)));
+          (λ j l. each j l .counted (g .few j l) ∙ ap (apart (wordIn size mode slot j)) (sym (code j l)));
     }
-repaired size mode slot all counts info Beyond r a g = record
-    { word = g .word; inside = g .inside; none = a .each (g .word) (g .inside) .none (g .none) }
+repaired size mode places all counts info Beyond r a g slot e p =
+    let each = each-of size mode slot places all counts r a e p in
+    record { word = g .word; inside = g .inside; none = each (g .word) (g .inside) .none (g .none) }

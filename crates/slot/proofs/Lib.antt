@@ -18,5 +18,6 @@ mod PlaceSteps
 mod ProtectSteps
 mod BatchSteps
 mod ReceiveSteps
+mod CleanSteps
 mod UnprotectSteps
 mod Vectors

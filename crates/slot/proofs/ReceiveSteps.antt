@@ -1,4 +1,4 @@
--- What the code of unprotecting asks: a word received, the frame put together, and the answer from them.
+-- What the code of unprotecting asks: a slot unpacked, a word received, the frame put together, and the answer from them.
 -- Assumes nothing.
 use mathlib.Core.Path.{_≡_, refl, sym, ap, ap₂, _∙_}
 use mathlib.Core.Bool.{Bool, true, false, true≢false}
@@ -10,11 +10,12 @@ use lib.Bits.{bitXor}
 use lib.ListN.{length, getD, take, drop, set, length-drop}
 use lib.Seq.{take-all, take-at}
 use borrow.Author.Tests.{eqb-true, eqb-false}
-use Rattle.laws.specs.Tab.{tab, total}
+use Rattle.laws.specs.Tab.{tab, total, Below}
 use Rattle.laws.specs.Decides.{Decides}
-use Rattle.laws.proofs.Tab.{total-same}
+use Rattle.laws.proofs.Tab.{length-tab, getD-tab, tab-same, below-tab, total-same}
 use Rattle.laws.proofs.Fill.{Filled, filled-next, filled-last}
 use Rattle.gf16.specs.Field.{sum}
+use Rattle.gf16.proofs.Laws.{sum-lt}
 use Rattle.code_word.specs.Word.{apart}
 use Rattle.slot.specs.Sizes.{InRange, words, wordLength, hash1, hash2}
 use Rattle.slot.specs.Semi.{half, semi}
@@ -24,36 +25,98 @@ use Rattle.slot.specs.Slot.{codeWord, slotWith, wordIn}
 use Rattle.slot.specs.Changes.{changes}
 use Rattle.slot.specs.Unprotect.{Corrected}
 use Rattle.slot.specs.Back.{rolled, requestIn, restIn, Matches}
-use Rattle.slot.specs.Inner.{MendedTo}
+use Rattle.slot.specs.Inner.{unpacked, wordFrom, MendedTo}
+use Rattle.slot.proofs.Semi.{semi-lt}
 use Rattle.slot.proofs.Order.{length-heading}
-use Rattle.slot.proofs.Places.{changes-words}
-use Rattle.slot.proofs.Slot.{word-slot, bytes-with}
-use Rattle.slot.proofs.PlaceSteps.{added-row, pack-is}
+use Rattle.slot.proofs.Places.{AllWords, changes-words}
+use Rattle.slot.proofs.Slot.{signature-lt, word-slot, bytes-with}
+use Rattle.slot.proofs.PlaceSteps.{added-row, place-is, pack-is}
 
--- ---- a semi-octet and a word received
+-- ---- a slot unpacked, and a word received
 
-pub semi-even : (s : List ℕ) (p : ℕ) → p % 2 ≡ 0 → getD s (p / 2) 0 % 16 ≡ semi s p
+semi-even : (s : List ℕ) (j : ℕ) → getD s j 0 % 16 ≡ semi s (2 * j)
 unfolding semi half
-semi-even s p e = rw e
+semi-even s j = let a : 2 * j % 2 ≡ 0 = omega arith in let b : 2 * j / 2 ≡ j = omega arith in rw (a, b)
 
-pub semi-odd : (s : List ℕ) (p : ℕ) → (p % 2 ≡ 0 → ⊥) → getD s (p / 2) 0 < 256 → getD s (p / 2) 0 / 16 ≡ semi s p
+semi-odd : (s : List ℕ) (j : ℕ) → getD s j 0 < 256 → getD s j 0 / 16 ≡ semi s (2 * j + 1)
 unfolding semi half
-semi-odd s p n l = let e : p % 2 ≡ 1 = omega arith in rw e (omega arith)
+semi-odd s j l = let a : (2 * j + 1) % 2 ≡ 1 = omega arith in let b : (2 * j + 1) / 2 ≡ j = omega arith in rw (a, b) (omega arith)
+
+-- both semi-octets of a byte
+pub unpacked-next : (s : List ℕ) (n j : ℕ) (l : List ℕ) → Filled (semi s) n (2 * j) l → 2 * j + 1 < n → getD s j 0 < 256
+    → Filled (semi s) n (2 * (j + 1)) (set (set l (2 * j) (getD s j 0 % 16)) (2 * j + 1) (getD s j 0 / 16))
+unpacked-next s n j l f h b =
+    let low = filled-next (semi s) n (2 * j) l (getD s j 0 % 16) f (omega arith) (semi-even s j) in
+    let e : 2 * (j + 1) ≡ 2 * j + 1 + 1 = omega arith in
+    rw e (filled-next (semi s) n (2 * j + 1) (set l (2 * j) (getD s j 0 % 16)) (getD s j 0 / 16) low h (semi-odd s j b))
+
+pub unpacked-last : (s : List ℕ) (n k : ℕ) (l : List ℕ) → n ≡ 2 * length s → n ≤ k → Filled (semi s) n k l → l ≡ unpacked s
+unfolding unpacked
+unpacked-last s n k l e h f = filled-last (semi s) n k l f h ∙ ap (tab (semi s)) e
+
+length-unpacked : (s : List ℕ) → length (unpacked s) ≡ 2 * length s
+unfolding unpacked
+length-unpacked s = length-tab (semi s) (2 * length s)
+
+below-unpacked : (s : List ℕ) → Below 16 (unpacked s)
+unfolding unpacked
+below-unpacked s = below-tab 16 (semi s) (2 * length s) (omega arith) (λ i l. semi-lt s i)
+
+-- .. in front of what was lent with them
+module _ (size : ℕ) (slot last rest : List ℕ) (long : length slot ≡ size) (is : last ≡ unpacked slot) where
+  last-long : length last ≡ 2 * size
+  last-long = ap (λ (l : List ℕ). length l) is ∙ length-unpacked slot ∙ ap (λ (n : ℕ). 2 * n) long
+
+  pub lent-is : take (2 * size) (last ++ rest) ≡ unpacked slot
+  lent-is = take-at last rest (2 * size) last-long ∙ is
+
+  pub lent-long : length (take (2 * size) (last ++ rest)) ≡ 2 * size
+  lent-long = ap (λ (l : List ℕ). length l) (take-at last rest (2 * size) last-long) ∙ last-long
+
+  pub lent-below : Below 16 (take (2 * size) (last ++ rest))
+  lent-below = rw lent-is (below-unpacked slot)
+
+-- the words of a slot, from its semi-octets
+pub word-from : (size mode : ℕ) (slot places : List ℕ) (i : ℕ) → 40 ≤ size → length slot ≡ size → places ≡ unpacked slot
+    → wordFrom size mode places i ≡ wordIn size mode slot i
+unfolding unpacked wordFrom wordIn received
+word-from size mode slot places i h e p =
+    tab-same (λ k. sum (getD places (placeOf size i k) 0) (signature mode i k)) (λ k. sum (semi slot (placeOf size i k)) (signature mode i k))
+    (wordLength size i)
+    (λ k m.
+    let q = place-is size (words size) i k refl in
+    ap (λ (x : ℕ). sum x (signature mode i k))
+    (ap (λ (x : List ℕ). getD x (placeOf size i k) 0) p ∙ getD-tab (semi slot) (2 * length slot) (placeOf size i k) (omega arith)))
+
+pub length-from : (size mode : ℕ) (places : List ℕ) (i : ℕ) → length (wordFrom size mode places i) ≡ wordLength size i
+unfolding wordFrom
+length-from size mode places i = length-tab (λ k. sum (getD places (placeOf size i k) 0) (signature mode i k)) (wordLength size i)
+
+-- words taken from semi-octets fit
+pub words-from : (size mode : ℕ) (places : List ℕ) → Below 16 places → AllWords size (wordFrom size mode places)
+unfolding wordFrom
+words-from size mode places b = record {
+  long = λ i l. length-from size mode places i;
+  below = λ i l.
+      below-tab 16 (λ k. sum (getD places (placeOf size i k) 0) (signature mode i k)) (wordLength size i) (omega arith)
+      (λ k m. sum-lt _ _ (b (placeOf size i k)) (signature-lt mode i k));
+}
 
 -- the semi-octets of word i as received
 unfoldable pub arrived : ℕ → ℕ → List ℕ → ℕ → ℕ → ℕ
-arrived size mode slot i k = sum (semi slot (placeOf size i k)) (signature mode i k)
+arrived size mode places i k = sum (getD places (placeOf size i k) 0) (signature mode i k)
 
-pub arrived-next : (size mode : ℕ) (slot : List ℕ) (i n k x y p : ℕ) (w : List ℕ) → Filled (arrived size mode slot i) n k w → k < n
-    → p ≡ placeOf size i k → x ≡ semi slot p → y ≡ signature mode i k → Filled (arrived size mode slot i) n (k + 1) (set w k (bitXor x y))
+pub arrived-next : (size mode : ℕ) (places : List ℕ) (i n k y p : ℕ) (w : List ℕ) → Filled (arrived size mode places i) n k w → k < n
+    → p ≡ placeOf size i k → y ≡ signature mode i k → Filled (arrived size mode places i) n (k + 1) (set w k (bitXor (getD places p 0) y))
 unfolding arrived
-arrived-next size mode slot i n k x y p w f l e g h =
-    filled-next (arrived size mode slot i) n k w (bitXor x y) f l
-    (added-row x y (signature mode i k) h ∙ ap (λ (z : ℕ). sum z (signature mode i k)) (g ∙ ap (semi slot) e))
+arrived-next size mode places i n k y p w f l e h =
+    filled-next (arrived size mode places i) n k w (bitXor (getD places p 0) y) f l
+    (added-row (getD places p 0) y (signature mode i k) h ∙ ap (λ (z : ℕ). sum (getD places z 0) (signature mode i k)) e)
 
-pub arrived-last : (size mode : ℕ) (slot : List ℕ) (i n k : ℕ) (w : List ℕ) → n ≡ wordLength size i → n ≤ k → Filled (arrived size mode slot i) n k w → w ≡ wordIn size mode slot i
-unfolding arrived wordIn received
-arrived-last size mode slot i n k w e l f = filled-last (arrived size mode slot i) n k w f l ∙ ap (tab (arrived size mode slot i)) e
+pub arrived-last : (size mode : ℕ) (places : List ℕ) (i n k : ℕ) (w : List ℕ) → n ≡ wordLength size i → n ≤ k → Filled (arrived size mode places i) n k w
+    → w ≡ wordFrom size mode places i
+unfolding arrived wordFrom
+arrived-last size mode places i n k w e l f = filled-last (arrived size mode places i) n k w f l ∙ ap (tab (arrived size mode places i)) e
 
 -- ---- all words corrected
 

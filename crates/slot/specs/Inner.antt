@@ -4,14 +4,15 @@ use mathlib.Core.Path.{_≡_}
 use mathlib.Core.Bool.{Bool, true, false}
 use mathlib.Core.List.{List}
 use Prim.Native.Nat.{ℕ, zero, suc, _+_, _-_, _*_, _/_, _%_, _^_, _≤_, _<_}
-use lib.ListN.{length, getD, drop}
-use Rattle.laws.specs.Tab.{total, Below}
+use lib.ListN.{length, getD, take, drop}
+use Rattle.laws.specs.Tab.{tab, total, Below}
 use Rattle.gf16.specs.Field.{sum}
 use Rattle.code_word.specs.Word.{apart}
 use Rattle.code_word.specs.Correct.{Near}
 use Rattle.slot.specs.Sizes.{words, wordLength, frameSize}
 use Rattle.slot.specs.Hash.{pushed}
-use Rattle.slot.specs.Words.{piece, dataWord, placeOf, wordOf, numberIn}
+use Rattle.slot.specs.Semi.{semi}
+use Rattle.slot.specs.Words.{piece, dataWord, signature, placeOf, wordOf, numberIn}
 use Rattle.slot.specs.Order.{Data}
 use Rattle.slot.specs.Slot.{codeWord, wordIn}
 use Rattle.slot.specs.Back.{rolled, restIn, Matches}
@@ -55,12 +56,6 @@ pub record Placed (size : ℕ) (g : ℕ → ℕ → ℕ) (w : ℕ → List ℕ) 
   pub stands : (p : ℕ) → p < 2 * size → wordOf size p < n
       → getD places p 0 ≡ sum (getD (w (wordOf size p)) (numberIn size p) 0) (g (wordOf size p) (numberIn size p))
 
--- every word as received, one after the other
-pub record AllArrived (size mode : ℕ) (slot all : List ℕ) : Type 0 where
-  pub long : length all ≡ 2 * size
-  pub below : Below 16 all
-  pub each : (i : ℕ) → i < words size → piece (wordLength size) all i ≡ wordIn size mode slot i
-
 -- the first n words have a count, the sum of them is the count, and the data of these words stand where they belong
 pub record GatheredTo (size mode : ℕ) (all counts info : List ℕ) (n count : ℕ) : Type 0 where
   pub given : Data size mode info
@@ -92,3 +87,34 @@ IsRepair size mode slot info Beyond = SomeBeyond size mode slot
 abbrev pub IsDelivered : ℕ → ℕ → List ℕ → List ℕ → List ℕ → Bool → Type 0
 IsDelivered size mode t old new true = Matches size mode t × (new ≡ rolled (frameSize size mode) (restIn size mode t))
 IsDelivered size mode t old new false = (Matches size mode t → ⊥) × (new ≡ old)
+
+-- ---- a slot unpacked
+
+-- the semi-octets of the slot, each at its place
+unfoldable pub unpacked : List ℕ → List ℕ
+unpacked slot = tab (λ p. semi slot p) (2 * length slot)
+
+-- word i as received, from the places (A.53 to A.55)
+unfoldable pub wordFrom : ℕ → ℕ → List ℕ → ℕ → List ℕ
+wordFrom size mode places i = tab (λ k. sum (getD places (placeOf size i k) 0) (signature mode i k)) (wordLength size i)
+
+-- every word as received, one after the other
+pub record AllArrived (size mode : ℕ) (places all : List ℕ) : Type 0 where
+  pub long : length all ≡ 2 * size
+  pub below : Below 16 all
+  pub each : (i : ℕ) → i < words size → piece (wordLength size) all i ≡ wordFrom size mode places i
+
+-- the answer for the slot of these semi-octets
+abbrev pub IsRepairFrom : ℕ → ℕ → List ℕ → List ℕ → Repair → Type 0
+IsRepairFrom size mode places info r = (slot : List ℕ) → length slot ≡ size → places ≡ unpacked slot → IsRepair size mode slot info r
+
+-- the check semi-octets of word i as received, and the data behind them
+abbrev pub checksFrom : ℕ → ℕ → List ℕ → ℕ → List ℕ
+checksFrom size mode places i = take (2 * (mode - 1)) (wordFrom size mode places i)
+
+abbrev pub dataFrom : ℕ → ℕ → List ℕ → ℕ → List ℕ
+dataFrom size mode places i = drop (2 * (mode - 1)) (wordFrom size mode places i)
+
+-- the first n words as received are the code words over the data
+abbrev pub AllClean : ℕ → ℕ → List ℕ → List ℕ → ℕ → Type 0
+AllClean size mode places info n = (j : ℕ) → j < n → codeWord size mode info j ≡ wordFrom size mode places j

@@ -1,42 +1,55 @@
--- `slot::receiving::mend_all` meets its contract. The room that it lends is as long as asked. Assumes nothing.
+-- `slot::receiving::mend_all` meets its contract. The semi-octets that it lends are those of the slot. Assumes nothing.
 use mathlib.Core.Path.{sym, _∙_}
 use Prim.Native.Nat.{_*_}
 use native.Mathlib.Omega.{arith}
-use lib.Seq.{length-take-le}
-use lib.ListN.{replicate}
+use lib.ListN.{drop}
+use lib.Seq.{length-take-le, length-front}
 use borrow.Author.Needs.{needs}
 use Rattle.slot.proofs.ProtectSteps.{blanks}
+use Rattle.slot.proofs.ReceiveSteps.{lent-is, lent-long, lent-below}
+use Rattle.slot.proofs.CleanSteps.{clean-slot}
 use Rattle.slot.proofs.receiving.mend_all.Statement.{statement}
 use Rattle.slot.proofs.receiving.mend_all.Tie as tie
 
-word-count-requires : tie.Need-word-count-requires
-word-count-requires c κs = search needs
+mul-places : tie.Need-mul-places
+mul-places c = search needs
 
-mul-all : tie.Need-mul-all
-mul-all c = search needs
+array-borrow-prefix-places : tie.Need-array-borrow-prefix-places
+array-borrow-prefix-places c = search needs
 
-array-borrow-prefix-all : tie.Need-array-borrow-prefix-all
-array-borrow-prefix-all c = search needs
+slice-aggregate-unpack : tie.Need-slice-aggregate-unpack
+slice-aggregate-unpack c = let s = c .before .before .before in sym (length-take-le (2 * s .args .size) blanks (omega (arith, s .pre .0 .size-to)))
 
-slice-aggregate-mend-with : tie.Need-slice-aggregate-mend-with
-slice-aggregate-mend-with c =
-    let s = c .before .before .before .before in
-    sym (length-take-le (2 * s .args .size) blanks (omega (arith, s .pre .0 .size-to)))
+unpack-requires : tie.Need-unpack-requires
+unpack-requires c κs =
+    let s = c .before .before .before in
+    (omega (arith, s .pre .0 .size-to, s .pre .1), length-take-le (2 * s .args .size) blanks (omega (arith, s .pre .0 .size-to)) ∙ omega (arith, s .pre .1))
 
-array-borrow-prefix-counts : tie.Need-array-borrow-prefix-counts
-array-borrow-prefix-counts c = search needs
+mul-places-2 : tie.Need-mul-places-2
+mul-places-2 c = search needs
 
-slice-aggregate-mend-with-2 : tie.Need-slice-aggregate-mend-with-2
-slice-aggregate-mend-with-2 c = sym (length-take-le (c .before .before .word-count .result) (replicate 54 0) (omega (arith, c .before .before .word-count .ensures .1)))
+array-share-prefix-places : tie.Need-array-share-prefix-places
+array-share-prefix-places c =
+    let s = c .before .before .before .before .before in
+    let u = c .before .unpack in
+    let l = length-front blanks (u .last .1 .0) (2 * s .args .size) (u .kept .1 .0) in
+    omega (arith, s .pre .0 .size-to)
 
-mend-with-requires : tie.Need-mend-with-requires
-mend-with-requires c κs =
+slice-aggregate-clean : tie.Need-slice-aggregate-clean
+slice-aggregate-clean c =
     let s = c .before .before .before .before .before .before in
-    let n = c .before .before .before .word-count in (
+    let u = c .before .before .unpack in
+    sym (lent-long (s .args .size) (s .args .slot .now) (u .last .1 .0) (drop (2 * s .args .size) blanks) (s .pre .1) (u .ensures))
+
+clean-requires : tie.Need-clean-requires
+clean-requires c κs =
+    let s = c .before .before .before .before .before .before .before in
+    let u = c .before .before .before .unpack in
+    let n = s .args .size in
+    let rest = drop (2 * n) blanks in (
       s .pre .0,
-      s .pre .1,
-      length-take-le (2 * s .args .size) blanks (omega (arith, s .pre .0 .size-to)),
-      length-take-le (n .result) (replicate 54 0) (omega (arith, n .ensures .1)) ∙ n .ensures .0,
+      lent-long n (s .args .slot .now) (u .last .1 .0) rest (s .pre .1) (u .ensures),
+      lent-below n (s .args .slot .now) (u .last .1 .0) rest (s .pre .1) (u .ensures),
       s .pre .2,
     )
 
@@ -44,18 +57,70 @@ same-length : tie.Need-same-length
 same-length c = search needs
 
 returns : tie.Need-returns
-returns c = search needs
+returns c =
+    let s = c .before .before .before .before .before .before .before .before .before .before .before in
+    let a = s .args in
+    let u = c .before .before .before .before .before .before .before .unpack in
+    let m = c .before .before .before .clean in
+    clean-slot (a .size) (a .mode) (a .slot .now) _ (m .last .1 .1 .1 .0) (s .pre .0) (s .pre .1)
+    (lent-is (a .size) (a .slot .now) (u .last .1 .0) (drop (2 * a .size) blanks) (s .pre .1) (u .ensures)) (m .ensures .0) (m .ensures .1 (c .if1 .taken))
+
+mul-places-3 : tie.Need-mul-places-3
+mul-places-3 c = search needs
+
+array-share-prefix-places-2 : tie.Need-array-share-prefix-places-2
+array-share-prefix-places-2 c =
+    let s = c .before .before .before .before .before .before .before .before .before .before .before in
+    let u = c .before .before .before .before .before .before .before .unpack in
+    let l = length-front blanks (u .last .1 .0) (2 * s .args .size) (u .kept .1 .0) in
+    omega (arith, s .pre .0 .size-to)
+
+slice-aggregate-repair : tie.Need-slice-aggregate-repair
+slice-aggregate-repair c =
+    let s = c .before .before .before .before .before .before .before .before .before .before .before .before in
+    let u = c .before .before .before .before .before .before .before .before .unpack in
+    sym (lent-long (s .args .size) (s .args .slot .now) (u .last .1 .0) (drop (2 * s .args .size) blanks) (s .pre .1) (u .ensures))
+
+repair-requires : tie.Need-repair-requires
+repair-requires c κs =
+    let s = c .before .before .before .before .before .before .before .before .before .before .before .before .before in
+    let u = c .before .before .before .before .before .before .before .before .before .unpack in
+    let n = s .args .size in
+    let rest = drop (2 * n) blanks in (
+      s .pre .0,
+      lent-long n (s .args .slot .now) (u .last .1 .0) rest (s .pre .1) (u .ensures),
+      lent-below n (s .args .slot .now) (u .last .1 .0) rest (s .pre .1) (u .ensures),
+      c .before .before .before .before .before .clean .ensures .0,
+    )
+
+same-length-2 : tie.Need-same-length-2
+same-length-2 c = search needs
+
+returns-2 : tie.Need-returns-2
+returns-2 c =
+    let s = c .before .before .before .before .before .before .before .before .before .before .before .before .before .before .before .before in
+    let u = c .before .before .before .before .before .before .before .before .before .before .before .before .unpack in
+    let n = s .args .size in
+    c .before .before .repair .ensures (s .args .slot .now) (s .pre .1)
+    (lent-is n (s .args .slot .now) (u .last .1 .0) (drop (2 * n) blanks) (s .pre .1) (u .ensures))
 
 pub mend-all-spec : {M : Type 1} → statement M
 mend-all-spec =
     tie.close
     (tie.spec
-    word-count-requires
-    mul-all
-    array-borrow-prefix-all
-    slice-aggregate-mend-with
-    array-borrow-prefix-counts
-    slice-aggregate-mend-with-2
-    mend-with-requires
+    mul-places
+    array-borrow-prefix-places
+    slice-aggregate-unpack
+    unpack-requires
+    mul-places-2
+    array-share-prefix-places
+    slice-aggregate-clean
+    clean-requires
     same-length
-    returns)
+    returns
+    mul-places-3
+    array-share-prefix-places-2
+    slice-aggregate-repair
+    repair-requires
+    same-length-2
+    returns-2)

@@ -20,8 +20,9 @@ gather-requires c κs =
     let a = s .args in
     let r = c .before .before .before .before .before .before .before .before .before .before .before .before .receive-all in
     let e = c .before .before .before .before .before .before .before .correct-each in
-    let w = answered (a .size) (a .mode) (a .slot .now) (r .last .1 .1 .1 .0) (a .counts .now) (s .pre .0) (r .ensures) (s .pre .3) (e .last .0) (e .last .1 .1 .0) (batchNumberOf (e .result)) (e .ensures) in
-    (s .pre .0, w .long, w .below, w .many, s .pre .4)
+    let w = answered (a .size) (a .mode) (a .places .now) (r .last .1 .1 .1 .0) (a .counts .now) (s .pre .0) (r .ensures) (s .pre .4)
+    (e .last .0) (e .last .1 .1 .0) (batchNumberOf (e .result)) (e .ensures) in
+    (s .pre .0, w .long, w .below, w .many, s .pre .5)
 
 same-length : tie.Need-same-length
 same-length c = search needs
@@ -38,8 +39,10 @@ returns c =
     let a = s .args in
     let r = c .before .before .before .before .before .before .before .before .before .before .before .before .before .before .before .receive-all in
     let e = c .before .before .before .before .before .before .before .before .before .before .correct-each in
-    let w = answered (a .size) (a .mode) (a .slot .now) (r .last .1 .1 .1 .0) (a .counts .now) (s .pre .0) (r .ensures) (s .pre .3) (e .last .0) (e .last .1 .1 .0) (batchNumberOf (e .result)) (e .ensures) in
-    repaired (a .size) (a .mode) (a .slot .now) (e .last .0) (e .last .1 .1 .0) (c .before .before .gather .last .1 .1 .1 .1 .0) (c .before .before .gather .result) (s .pre .0) w (c .before .before .gather .ensures)
+    let w = answered (a .size) (a .mode) (a .places .now) (r .last .1 .1 .1 .0) (a .counts .now) (s .pre .0) (r .ensures) (s .pre .4)
+    (e .last .0) (e .last .1 .1 .0) (batchNumberOf (e .result)) (e .ensures) in
+    repaired (a .size) (a .mode) (a .places .now) (e .last .0) (e .last .1 .1 .0)
+    (c .before .before .gather .last .1 .1 .1 .1 .0) (c .before .before .gather .result) (s .pre .0) w (c .before .before .gather .ensures)
 
 pub mend-with-spec : {M : Type 1} → statement M
 mend-with-spec =

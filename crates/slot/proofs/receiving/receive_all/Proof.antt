@@ -9,10 +9,10 @@ use Rattle.slot.proofs.receiving.receive_all.Statement.{statement}
 use Rattle.slot.proofs.receiving.receive_all.Tie as tie
 
 abbrev Inv-loop : tie.InvT-loop
-Inv-loop size mode slot all₀ count at₀ i₀ all at i = (i ≤ count) × ArrivedTo size mode slot i at all
+Inv-loop size mode places all₀ count at₀ i₀ all at i = (i ≤ count) × ArrivedTo size mode places i at all
 
 abbrev μ-loop : tie.MeasureT-loop
-μ-loop size mode slot all₀ count at₀ i₀ all at i = count - i
+μ-loop size mode places all₀ count at₀ i₀ all at i = count - i
 
 word-count-requires : tie.Need-word-count-requires Inv-loop μ-loop
 word-count-requires c κs = search needs
@@ -20,7 +20,7 @@ word-count-requires c κs = search needs
 loop-holds : tie.Need-loop-holds Inv-loop μ-loop
 loop-holds c =
     let s = c .before .before .before in
-    (omega arith, arrived-none (s .args .size) (s .args .mode) (s .args .slot .now) (s .args .all .now) (s .pre .2))
+    (omega arith, arrived-none (s .args .size) (s .args .mode) (s .args .places .now) (s .args .all .now) (s .pre .3))
 
 word-length-requires : tie.Need-word-length-requires Inv-loop μ-loop
 word-length-requires c κs = search needs
@@ -91,7 +91,8 @@ returns c =
     let s = c .before .before .before .before .before in
     let a = s .args in
     let h = c .before .loop in
-    arrived-all (a .size) (a .mode) (h .i) (h .at) (a .slot .now) (h .all) (s .pre .0) (omega (arith, h .inv .0, c .before .before .word-count .ensures .0, c .loop-test .left)) (h .inv .1)
+    arrived-all (a .size) (a .mode) (h .i) (h .at) (a .places .now) (h .all) (s .pre .0) (s .pre .2)
+    (omega (arith, h .inv .0, c .before .before .word-count .ensures .0, c .loop-test .left)) (h .inv .1)
 
 pub receive-all-spec : {M : Type 1} → statement M
 receive-all-spec =
