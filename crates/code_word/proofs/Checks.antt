@@ -99,9 +99,9 @@ pub summed-none : (rows : List ℕ) (f : ℕ → ℕ) → 0 ≡ summed rows f 0
 unfolding summed
 summed-none rows f = refl
 
-pub summed-next : (rows : List ℕ) (f : ℕ → ℕ) (k r v : ℕ) → r ≡ summed rows f k → v ≡ withData rows k (f k) r → v ≡ summed rows f (k + 1)
+pub summed-next : (rows : List ℕ) (f : ℕ → ℕ) (k c r s : ℕ) → c ≡ f k → r ≡ summed rows f k → s ≡ withData rows k c r → s ≡ summed rows f (k + 1)
 unfolding summed
-summed-next rows f k r v e d = d ∙ ap (withData rows k (f k)) e ∙ ap (summed rows f) (sym (add-one k))
+summed-next rows f k c r s e h t = t ∙ ap₂ (withData rows k) e h ∙ ap (summed rows f) (sym (add-one k))
 
 -- ---- the digits one by one
 

@@ -7,7 +7,7 @@ use mathlib.Core.List.{List, [], _∷_}
 use Prim.Native.Nat.{ℕ, zero, suc, _+_, _-_, _*_, _/_, _%_, _≤_}
 use lib.Bits.{bitXor}
 use lib.Dec.{ltb}
-use lib.ListN.{getD, replicate}
+use lib.ListN.{getD}
 use Rattle.laws.specs.Tab.{tab, pick}
 use Rattle.code_word.specs.Word.{distance}
 use Rattle.code_word.specs.Register.{feedback, register}
@@ -21,10 +21,10 @@ alone (suc k) c = 0 ∷ alone k c
 unfoldable pub checkRows : ℕ → List ℕ
 checkRows n = tab (λ i. register (feedback n) (alone (i / 16) (i % 16))) 208
 
--- the table of a mode; all 0 where the mode is none of 2, 3 and 4
+-- the table of a mode; that of mode 4 where the mode is none of 2, 3 and 4
 pub record IsCheckRows (mode : ℕ) (rows : List ℕ) : Type 0 where
   pub inside : 2 ≤ mode → mode ≤ 4 → rows ≡ checkRows (distance mode - 1)
-  pub outside : (2 ≤ mode → mode ≤ 4 → ⊥) → rows ≡ replicate 208 0
+  pub outside : (2 ≤ mode → mode ≤ 4 → ⊥) → rows ≡ checkRows (distance 4 - 1)
 
 -- the sum r with what the low four bits of c at data place k add; a place that no word has adds nothing
 unfoldable pub withData : List ℕ → ℕ → ℕ → ℕ → ℕ

@@ -644,7 +644,6 @@ pub fn check_rows(mode: u32) -> [u32; 208]
     match mode {
         2 => TWO,
         3 => FOUR,
-        4 => SIX,
-        _ => [0; 208],
+        _ => SIX,
     }
 }

@@ -13,6 +13,7 @@ use libc::STDERR_FILENO;
 use libc::STDIN_FILENO;
 use libc::STDOUT_FILENO;
 use record::Listed;
+use record::Made;
 use sample::Surveyed;
 
 fn main() {
@@ -49,7 +50,11 @@ fn run(sample: &[u8], frames: usize) {
     let mut buffer = [0u8; 10000];
     let mut text = [0u8; 8192];
     let mut lines = [0u8; 65536];
-    record::new(&mut buffer);
+    let made = record::new(&mut buffer);
+    let Made::Empty = made else {
+        say(b"day: there is no room for a record\n");
+        return;
+    };
     if show(sample, frames, &mut buffer, &mut text, &mut lines) {
         return;
     }

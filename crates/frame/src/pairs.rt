@@ -113,7 +113,8 @@ fn row_of(look: &[u8], base: usize, level: usize) -> usize
     requires { ⌜ (length (now look) ≡ 4096) × (base < 1024) ⌝ }
     ensures { λ r. ⌜ (r ≡ rowOf (byLevel (now (look .entry))) base level) × (r < 65536) ⌝ }
 {
-    let at = 4 * base + cap(level);
+    let l = cap(level);
+    let at = 4 * base + l;
     wide(look[at]) * 18
 }
 

@@ -6,7 +6,6 @@ use mathlib.Core.Bool.{Bool, true, false}
 use mathlib.Core.List.{List, [], _∷_, _++_}
 use Prim.Native.Nat.{ℕ, zero, suc, _+_, _*_, _-_, _/_, _%_, _≤_, _<_}
 use native.Mathlib.Omega.{arith}
-use native.Mathlib.Numerals.{add-one}
 use lib.Bits.{bitXor, bitOr, or-add-and, and-le-l, and-le-r}
 use lib.Dec.{eqb}
 use lib.ListN.{length, getD, drop, length-drop, take-append-drop, drop-of-length-le}
@@ -21,18 +20,16 @@ use Rattle.gf16.proofs.Laws.{sum-same}
 use Rattle.code_word.specs.Word.{apart, distance}
 use Rattle.code_word.specs.Make.{coded}
 use Rattle.code_word.specs.Register.{poured}
-use Rattle.code_word.specs.Checks.{checkRows, withData, summed}
+use Rattle.code_word.specs.Checks.{checkRows, summed}
 use Rattle.code_word.proofs.Coded.{apart-front}
-use Rattle.code_word.proofs.Checks.{summed-coded, poured-append}
 use Rattle.slot.specs.Sizes.{InRange, words, wordLength, dataLength}
 use Rattle.slot.specs.Words.{dataWord, signature, placeOf}
 use Rattle.slot.specs.Order.{Data}
 use Rattle.slot.specs.Slot.{codeWord, wordIn}
 use Rattle.slot.specs.Inner.{unpacked, wordFrom, checksFrom, dataFrom, AllClean, MendedTo}
 use Rattle.slot.proofs.Sizes.{length-high, checks-fit}
-use Rattle.slot.proofs.Semi.{semi-octets-of}
 use Rattle.slot.proofs.Slot.{code-word}
-use Rattle.slot.proofs.PlaceSteps.{added-row}
+use Rattle.slot.proofs.PlaceSteps.{added-row, summed-word}
 use Rattle.slot.proofs.ReceiveSteps.{length-from, words-from, word-from}
 use Rattle.slot.proofs.BatchSteps.{new-data, new-word, same-words-before}
 
@@ -83,15 +80,6 @@ module _ (size mode i : ℕ) (places : List ℕ) (range : InRange size mode) (in
       filled-last (λ k. getD (dataFrom size mode places i) k 0) n k w f l
       ∙ tab-is (λ k. getD (dataFrom size mode places i) k 0) n (dataFrom size mode places i) (length-data ∙ sym e) (λ k m. refl)
 
--- a turn of the sum over the data
-pub summed-first : (rows : List ℕ) (f : ℕ → ℕ) → 0 ≡ summed rows f 0
-unfolding summed
-summed-first rows f = refl
-
-pub summed-next : (rows : List ℕ) (f : ℕ → ℕ) (k c r s : ℕ) → c ≡ f k → r ≡ summed rows f k → s ≡ withData rows k c r → s ≡ summed rows f (k + 1)
-unfolding summed
-summed-next rows f k c r s e h t = t ∙ ap₂ (withData rows k) e h ∙ ap (summed rows f) (sym (add-one k))
-
 -- ---- the check semi-octets compared
 
 -- where two have no bit together, neither has one
@@ -137,18 +125,14 @@ pub clean-coded : (size mode i r : ℕ) (places rows w : List ℕ) → InRange s
 clean-coded size mode i r places rows w range l b t e s c =
     let word = wordFrom size mode places i in
     let info = dataFrom size mode places i in
-    let n : 2 * (mode - 1) ≡ 2 * mode - 1 - 1 = omega arith in
     let long = length-data size mode i places range l in
     let f = checks-fit size mode i range l in
     let h = length-high size i (range .size-from) in
-    let small = semi-octets-of info (below-drop 16 (2 * (mode - 1)) word (words-from size mode places b .below i l)) in
-    let sums : r ≡ summed (checkRows (distance mode - 1)) (λ k. getD info k 0) (length info) =
-    s ∙ ap₂ (λ (x : List ℕ) (m : ℕ). summed x (λ k. getD info k 0) m) t (sym long) in
+    let small = below-drop 16 (2 * (mode - 1)) word (words-from size mode places b .below i l) in
+    let sums : r ≡ summed rows (λ k. getD info k 0) (length info) = s ∙ ap (summed rows (λ k. getD info k 0)) (sym long) in
     sym (take-append-drop (2 * (mode - 1)) word)
     ∙ ap (λ (x : List ℕ). x ++ info) c
-    ∙ sym (poured-append (2 * (mode - 1)) r [] info)
-    ∙ ap₂ (λ (m x : ℕ). poured m x info) n sums
-    ∙ summed-coded (distance mode) info (omega (arith, range .mode-from)) (omega (arith, long)) small
+    ∙ sym (summed-word mode info (range .mode-from) (range .mode-to) (omega (arith, long)) small rows r t sums)
     ∙ ap (coded (distance mode)) (sym e)
 
 -- ---- the loop over the words

@@ -29,7 +29,7 @@ use Rattle.slot.specs.Slot.{codeWord, slotWith}
 use Rattle.slot.specs.Inner.{Spanned, Scattered, Placed}
 use Rattle.slot.proofs.Sizes.{place-in, length-low, length-high, checks-fit, data-lengths}
 use Rattle.slot.proofs.Semi.{pack-same, semi-octets-of, below-of}
-use Rattle.slot.proofs.Places.{AllWords, place-word, place-number, place-back, word-lt, number-lt, slot-lt}
+use Rattle.slot.proofs.Places.{AllWords, place-lt, place-word, place-number, place-back, word-lt, number-lt, slot-lt}
 use Rattle.slot.proofs.Slot.{all-words, length-word, semi-octets-word}
 
 -- ---- the signature
@@ -82,10 +82,6 @@ place-is size count i k e = ap (λ (x : ℕ). 2 * size - x * k - i - 1) e
 pub place-below : (size count i k : ℕ) → 40 ≤ size → count ≡ words size → i < words size → k < wordLength size i → count * k + i < 2 * size
 place-below size count i k h e l p = rw e (place-in size i k h l p)
 
-place-at : (size i k : ℕ) → 40 ≤ size → i < words size → k < wordLength size i → placeOf size i k < 2 * size
-unfolding placeOf
-place-at size i k h l p = let q = place-in size i k h l p in omega arith
-
 pub span-none : (size : ℕ) (g : ℕ → ℕ → ℕ) (i : ℕ) (f : ℕ → ℕ) (lo hi : ℕ) (old : List ℕ) → hi ≤ lo → Spanned size g i f lo hi old old
 span-none size g i f lo hi old h = record { long = refl; mine = λ k a b. absurd (omega arith); rest = λ k a n. refl; others = λ p h n. refl }
 
@@ -98,7 +94,7 @@ module _ (size : ℕ) (g : ℕ → ℕ → ℕ) (i : ℕ) (f : ℕ → ℕ) (fro
   at = placeOf size i m
 
   at-in : at < length new
-  at-in = let b = place-at size i m from inside in-word in omega (arith, s .long)
+  at-in = let b = place-lt size i m from inside in-word in omega (arith, s .long)
 
   elsewhere : (k : ℕ) → k < wordLength size i → (k ≡ m → ⊥) → getD (set new at v) (placeOf size i k) 0 ≡ getD new (placeOf size i k) 0
   elsewhere k a d =

@@ -43,7 +43,7 @@ unfolding wordOf numberIn
 number-lt size p h l =
     in-place size (wordOf size p) (numberIn size p) h (word-lt size p h) (omega (arith, div-add-mod (2 * size - 1 - p) (words size)))
 
-place-lt : (size i k : ℕ) → 40 ≤ size → i < words size → k < wordLength size i → placeOf size i k < 2 * size
+pub place-lt : (size i k : ℕ) → 40 ≤ size → i < words size → k < wordLength size i → placeOf size i k < 2 * size
 unfolding placeOf
 place-lt size i k h l m = omega arith
 

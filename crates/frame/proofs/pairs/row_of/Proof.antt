@@ -6,11 +6,11 @@ use native.Mathlib.Omega.{arith}
 use denote.Ref.{now}
 use Rattle.frame.proofs.Escaping.{row-is}
 
-mul-at : tie.Need-mul-at
-mul-at c = search needs
-
 cap-requires : tie.Need-cap-requires
 cap-requires c κs = search needs
+
+mul-at : tie.Need-mul-at
+mul-at c = search needs
 
 add-at : tie.Need-add-at
 add-at c = search needs
@@ -34,4 +34,4 @@ returns c =
 pub row-of-spec : {M : Type 1} → statement M
 row-of-spec =
     tie.close
-    (tie.spec mul-at cap-requires add-at shared-slice-read-wide wide-requires mul-result returns)
+    (tie.spec cap-requires mul-at add-at shared-slice-read-wide wide-requires mul-result returns)

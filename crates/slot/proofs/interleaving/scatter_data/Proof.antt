@@ -122,7 +122,7 @@ loop-again c =
     (n + (h .loop .k + 1)) (omega arith) refl (omega arith) w in (
       omega (arith, c .before .before .before .loop-test .taken),
       g .long ∙ s .pre .4,
-      summed-next (a .rows .now) (λ j. getD (a .info .now) j 0) (h .loop .k) (h .loop .r) _ (h .loop .inv .2) (c .before .with-data .ensures),
+      summed-next (a .rows .now) (λ j. getD (a .info .now) j 0) (h .loop .k) _ (h .loop .r) _ refl (h .loop .inv .2) (c .before .with-data .ensures),
       g,
     )
 

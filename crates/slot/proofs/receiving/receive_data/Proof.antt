@@ -9,7 +9,8 @@ use Rattle.slot.specs.Sizes.{wordLength, dataLength}
 use Rattle.slot.specs.Inner.{dataFrom}
 use Rattle.slot.proofs.Sizes.{length-high}
 use Rattle.slot.proofs.PlaceSteps.{place-below, place-is}
-use Rattle.slot.proofs.CleanSteps.{data-place, data-at, data-last, summed-first, summed-next}
+use Rattle.code_word.proofs.Checks.{summed-none, summed-next}
+use Rattle.slot.proofs.CleanSteps.{data-place, data-at, data-last}
 use borrow.Author.Needs.{needs}
 use Rattle.slot.proofs.receiving.receive_data.Statement.{statement}
 use Rattle.slot.proofs.receiving.receive_data.Tie as tie
@@ -37,7 +38,7 @@ loop-holds c =
       omega arith,
       refl,
       filled-first (λ (k : ℕ). getD (dataFrom (a .size) (a .mode) (a .places .now) (a .i)) k 0) (length (a .w .now)) (a .w .now) refl,
-      summed-first (a .rows .now) (λ (k : ℕ). getD (dataFrom (a .size) (a .mode) (a .places .now) (a .i)) k 0),
+      summed-none (a .rows .now) (λ (k : ℕ). getD (dataFrom (a .size) (a .mode) (a .places .now) (a .i)) k 0),
     )
 
 abbrev begin : tie.In-loop Inv-loop μ-loop → tie.Start Inv-loop μ-loop
