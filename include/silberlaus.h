@@ -72,8 +72,8 @@ enum {
 
 /* Bytes of stack that a call needs at most, its return address and all that it calls included, but not a `memcpy` and a
    `memset` of your own. Measured on the archive (tests/face), and rounded up. */
-#define SILBERLAUS_STACK_SLOT 5120   /* silberlaus_frame_size, protect, unprotect */
-#define SILBERLAUS_STACK_FRAME 16384 /* silberlaus_line_count, read_frame, read_entry */
+#define SILBERLAUS_STACK_SLOT 7168   /* silberlaus_frame_size, protect, unprotect */
+#define SILBERLAUS_STACK_FRAME 12288 /* silberlaus_line_count, read_frame, read_entry */
 #define SILBERLAUS_STACK_RECORD 512  /* silberlaus_record_* */
 
 /* ---- answers */
