@@ -3,8 +3,8 @@
 // length within m - 1 places, with the count of places, or says that there is none and leaves the word as it was lent; `correct_each` does so
 // for many words; `with_data` sums up, with the table of `check_rows`, the check semi-octets of a word whose data come one by one. What is out
 // of range gets an answer of its own. specs/ says what is right; proofs/ has the distance argument, once for d.
-ghost use Rattle.code_word.specs.Make as making;
 ghost use mathlib.Core.Path.{_≡_};
+ghost use Rattle.code_word.specs.Make as making;
 ghost use Rattle.code_word.specs.Checks.{IsCheckRows, withData};
 ghost use Rattle.code_word.specs.Correct.{Corrects, numberOf, countOf, CorrectsEach, batchNumberOf};
 
