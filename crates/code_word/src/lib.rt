@@ -5,12 +5,9 @@
 // of range gets an answer of its own. specs/ says what is right; proofs/ has the distance argument, once for d.
 ghost use mathlib.Core.Path.{_≡_};
 ghost use Rattle.code_word.specs.Make as making;
-ghost use Rattle.code_word.specs.Checks.{IsCheckRows, withData};
+ghost use Rattle.code_word_laws.specs.Checks.{IsCheckRows, withData};
 ghost use Rattle.code_word.specs.Correct.{Corrects, numberOf, countOf, CorrectsEach, batchNumberOf};
 
-mod corrector;
-mod encoder;
-mod rows;
 mod settings;
 
 // Whether a word was made.
@@ -43,9 +40,9 @@ pub fn make(word: &mut [u8], mode: u32) -> Making
     if !settings::semi_octets(word, n) {
         return Making::Unsuitable;
     }
-    let rows = encoder::rows(mode);
-    let r = encoder::divide(&rows, word, n);
-    encoder::pour(word, n, r);
+    let rows = code_word_encoder::rows(mode);
+    let r = code_word_encoder::divide(&rows, word, n);
+    code_word_encoder::pour(word, n, r);
     Making::Made
 }
 
@@ -53,7 +50,7 @@ pub fn make(word: &mut [u8], mode: u32) -> Making
 pub fn check_rows(mode: u32) -> [u32; 208]
     ensures { λ r. ⌜ IsCheckRows mode r ⌝ }
 {
-    rows::check_rows(mode)
+    code_word_encoder::checks::check_rows(mode)
 }
 
 // The sum of check semi-octets, packed, with what c at data place k adds: over all data of a word, from 0, they are the word's.
@@ -77,8 +74,8 @@ pub fn correct(word: &mut [u8], mode: u32) -> Correction
         return Correction::Unsuitable;
     }
     let most = (mode - 1) as u8;
-    let t = corrector::table();
-    let count = corrector::mend(&t, word, most);
+    let t = code_word_locator::table();
+    let count = code_word_corrector::mend(&t, word, most);
     if most < count {
         return Correction::None;
     }
@@ -105,7 +102,7 @@ pub fn correct_each(words: &mut [u8], mode: u32, counts: &mut [u8]) -> Answers
         return Answers::Unsuitable;
     }
     let most = (mode - 1) as u8;
-    let t = corrector::table();
-    corrector::mend_each(&t, words, long, over, most, counts);
+    let t = code_word_locator::table();
+    code_word_corrector::mend_each(&t, words, long, over, most, counts);
     Answers::Given
 }

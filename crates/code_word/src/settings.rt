@@ -2,7 +2,7 @@
 ghost use Prim.Native.Nat.{_+_, _≤_, _<_};
 ghost use lib.ListN.{length, drop};
 ghost use Rattle.laws.specs.Decides.{Decides};
-ghost use Rattle.code_word.specs.Word.{SemiOctets, Fits};
+ghost use Rattle.code_word_laws.specs.Word.{SemiOctets, Fits};
 
 // Whether words of this length are taken in this mode: at least the check semi-octets, and at most 15 in all.
 pub fn fits(mode: u32, long: usize) -> bool

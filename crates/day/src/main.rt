@@ -12,7 +12,7 @@ use input::Input;
 use libc::STDERR_FILENO;
 use libc::STDIN_FILENO;
 use libc::STDOUT_FILENO;
-use record::Listed;
+use record_listing::Listed;
 use record::Made;
 use sample::Surveyed;
 
@@ -76,7 +76,7 @@ fn show(
     if buffer.len() < used {
         return false;
     }
-    let listed = record::list(&buffer[..used], lines);
+    let listed = record_listing::list(&buffer[..used], lines);
     // Never taken: the buffer has the room that every listing fits.
     let Listed::From(at) = listed else {
         return false;

@@ -12,30 +12,35 @@ use Rattle.coder_tables.specs.Layout.{byContext, byLevel}
 use Rattle.coder_tables.specs.Rows.{SpectrumTables}
 use Rattle.coder_tables.proofs.Rules.{look-length, spectrum-tables, order-row, coefficient-row}
 use Rattle.coder_tables.proofs.LayoutRules.{length-by-context, by-level-back}
-use Rattle.frame.specs.Read.{Read, value, cause}
-use Rattle.frame.specs.Settings.{rateOf, rateOffset, weighting}
-use Rattle.frame.specs.Side.{sideOf, sideGiven, sideCause}
-use Rattle.frame.specs.Symbol.{startOf}
-use Rattle.frame.specs.Tns.{Filter, filterOf, filterGiven, filterCause, unused}
-use Rattle.frame.specs.Pairs.{Streams, Spectrum, pairsOf, pairsGiven, pairsCause}
-use Rattle.frame.specs.Residual.{Residual, leftOf, leftGiven, leftCause}
-use Rattle.frame.specs.Frame.{Spectral, Whole, pairSetting, finishedOf, sentBits, spectralOf, spectralFrom, spectralGiven, spectralCause}
+use Rattle.frame_bits.specs.Read.{Read, value, cause}
+use Rattle.frame_settings.specs.Settings.{rateOf, rateOffset, weighting}
+use Rattle.frame_side.specs.Side.{sideOf, sideGiven, sideCause}
+use Rattle.frame_coder.specs.Symbol.{startOf}
+use Rattle.frame_tns.specs.Tns.{Filter, filterOf, filterGiven, filterCause, unused}
+use Rattle.frame_pairs.specs.Pairs.{Streams, Spectrum, pairsOf, pairsGiven, pairsCause}
+use Rattle.frame_residual.specs.Residual.{Residual, leftOf, leftGiven, leftCause}
+use Rattle.frame.specs.Frame.{Spectral, Whole, pairSetting, spectralOf, spectralFrom, spectralGiven, spectralCause}
+use Rattle.frame_residual.specs.Residual.{finishedOf, sentBits}
 use Rattle.frame.specs.Frame.{arithmeticFrom, frameOf}
 use Rattle.frame.specs.Frame.{Judged, refused, judgedRead, judgedSized, judgedOf, givenOf, spectrumOf, residualAfter, told}
-use Rattle.frame.specs.Sound.{Roomy, Small, TnsTables, GoodSide, GoodFilter, GoodPairs, GoodLeft, GoodSpectral, Bounded}
-use Rattle.frame.specs.declared.settings.Setting.{Setting}
-use Rattle.frame.specs.declared.settings.Rate.the-variants as rate
-use Rattle.frame.specs.declared.side.Head.{Head}
-use Rattle.frame.specs.declared.side.Side.{Side}
-use Rattle.frame.specs.declared.coder.Coder.{Coder}
-use Rattle.frame.specs.declared.side.SideRead.{SideRead}
-use Rattle.frame.specs.declared.side.SideRead.the-variants as side
-use Rattle.frame.specs.declared.tns.FilterRead.{FilterRead}
-use Rattle.frame.specs.declared.tns.FilterRead.the-variants as filter
-use Rattle.frame.specs.declared.pairs.PairsRead.{PairsRead}
-use Rattle.frame.specs.declared.pairs.PairsRead.the-variants as pairsRead
-use Rattle.frame.specs.declared.residual.Left.{Left}
-use Rattle.frame.specs.declared.residual.Left.the-variants as left
+use Rattle.frame_pairs.specs.Sound.{Roomy, Small, GoodPairs}
+use Rattle.frame_tns.specs.Sound.{TnsTables, GoodFilter}
+use Rattle.frame_side.specs.Sound.{GoodSide}
+use Rattle.frame_residual.specs.Sound.{GoodLeft}
+use Rattle.frame.specs.Sound.{GoodSpectral, Bounded}
+use Rattle.frame_settings.specs.declared.Setting.{Setting}
+use Rattle.frame_settings.specs.declared.Rate.the-variants as rate
+use Rattle.frame_side.specs.declared.Head.{Head}
+use Rattle.frame_side.specs.declared.Side.{Side}
+use Rattle.frame_coder.specs.declared.Coder.{Coder}
+use Rattle.frame_side.specs.declared.SideRead.{SideRead}
+use Rattle.frame_side.specs.declared.SideRead.the-variants as side
+use Rattle.frame_tns.specs.declared.FilterRead.{FilterRead}
+use Rattle.frame_tns.specs.declared.FilterRead.the-variants as filter
+use Rattle.frame_pairs.specs.declared.PairsRead.{PairsRead}
+use Rattle.frame_pairs.specs.declared.PairsRead.the-variants as pairsRead
+use Rattle.frame_residual.specs.declared.Left.{Left}
+use Rattle.frame_residual.specs.declared.Left.the-variants as left
 use Rattle.frame.specs.declared.SpectralRead.{SpectralRead}
 use Rattle.frame.specs.declared.SpectralRead.the-variants as spectralRead
 use Rattle.frame.specs.declared.Reading.{Reading}

@@ -2,32 +2,33 @@
 -- Assumes nothing.
 use mathlib.Core.Path.{_≡_}
 use mathlib.Core.Bool.{Bool, _&&_, cond}
-use mathlib.Core.List.{List, [], _∷_}
-use Prim.Native.Nat.{ℕ, zero, suc, _/_}
+use mathlib.Core.List.{List}
+use Prim.Native.Nat.{ℕ, _/_}
 use lib.Dec.{leb, eqb}
 use lib.ListN.{length, take, replicate}
 use lib.IntN.{ℤ, pos}
 use Rattle.coder_tables.specs.Tables.{lookTable, spectrumTable, orderTable, coefficientTable}
-use Rattle.frame.specs.Read.{Read, value, cause, andThen}
-use Rattle.frame.specs.Settings.{rateOf, rateOffset, weighting}
-use Rattle.frame.specs.Side.{sideOf}
-use Rattle.frame.specs.Symbol.{startOf}
-use Rattle.frame.specs.Tns.{Filter, filterOf, unused}
-use Rattle.frame.specs.Pairs.{Streams, Spectrum, pairsOf}
-use Rattle.frame.specs.Residual.{Residual, leftOf, residualOf, latesOf}
-use Rattle.frame.specs.declared.settings.Setting.{Setting}
-use Rattle.frame.specs.declared.settings.Rate.{Rate}
-use Rattle.frame.specs.declared.settings.Rate.the-variants as rate
-use Rattle.frame.specs.declared.side.Side.{Side}
-use Rattle.frame.specs.declared.coder.Coder.{Coder}
-use Rattle.frame.specs.declared.side.Head.{Head}
-use Rattle.frame.specs.declared.pairs.PairSetting.{PairSetting}
+use Rattle.frame_bits.specs.Read.{Read, value, cause, andThen}
+use Rattle.frame_settings.specs.Settings.{rateOf, rateOffset, weighting}
+use Rattle.frame_side.specs.Side.{sideOf}
+use Rattle.frame_coder.specs.Symbol.{startOf}
+use Rattle.frame_tns.specs.Tns.{Filter, filterOf, unused}
+use Rattle.frame_pairs.specs.Pairs.{Spectrum, pairsOf}
+use Rattle.frame_residual.specs.Residual.{Residual, leftOf}
+use Rattle.frame_settings.specs.declared.Setting.{Setting}
+use Rattle.frame_settings.specs.declared.Rate.{Rate}
+use Rattle.frame_settings.specs.declared.Rate.the-variants as rate
+use Rattle.frame_side.specs.declared.Side.{Side}
+use Rattle.frame_coder.specs.declared.Coder.{Coder}
+use Rattle.frame_side.specs.declared.Head.{Head}
+use Rattle.frame_pairs.specs.declared.PairSetting.{PairSetting}
 use Rattle.frame.specs.declared.SpectralRead.{SpectralRead}
 use Rattle.frame.specs.declared.SpectralRead.the-variants as spectralRead
 use Rattle.frame.specs.declared.Fields.{Fields}
 use Rattle.frame.specs.declared.Reading.{Reading}
 use Rattle.frame.specs.declared.Answer.{Answer}
 use Rattle.frame.specs.declared.Answer.the-variants as answer
+use Rattle.frame_residual.specs.Residual.{finishedOf, sentBits}
 
 -- what follows the TNS data: the number of symbols taken, the lines and the residual bits, NE entries each
 pub record Spectral : Type 0 where
@@ -45,15 +46,6 @@ pub record Whole : Type 0 where
 -- what the pairs are read with
 abbrev pub pairSetting : Setting → ℕ → ℕ → PairSetting
 pairSetting r bytes lsb = record { lsb = lsb; offset = rateOffset (r .index) bytes; half = r .lines / 2 }
-
--- 5.4.2.8: in LSB mode 1 the late low bits go into the lines
-abbrev pub finishedOf : List ℕ → ℕ → ℕ → Spectrum → ℕ → ℕ → List ℤ
-finishedOf s lsb last x p left = cond (eqb lsb 0) (x .lines) (latesOf s (x .levels) last 0 (x .lines) p left)
-
--- 5.4.2.8: residual bits only in LSB mode 0; unused entries are 0
-abbrev pub sentBits : List ℕ → ℕ → ℕ → Spectrum → ℕ → ℕ → Residual
-sentBits s lsb lines x p left =
-    cond (eqb lsb 0) (residualOf s (x .lines) p left lines 0 0 (replicate lines 0)) (record { number = 0; bits = replicate lines 0 })
 
 abbrev pub spectralOf : List ℕ → Setting → Head → Spectrum → ℕ → ℕ → ℕ → Spectral
 spectralOf s r h x symbols p left =

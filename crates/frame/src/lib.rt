@@ -4,32 +4,27 @@
 ghost use mathlib.Core.Path.{_≡_};
 ghost use Prim.Native.Nat.{_≤_, _<_, _*_, _/_};
 ghost use lib.ListN.{length};
-ghost use Rattle.frame.specs.Settings.{Known, Sized, lineCount};
-ghost use Rattle.frame.specs.Tns.{unused};
+ghost use Rattle.frame_settings.specs.Settings.{Known, Sized, lineCount};
+ghost use Rattle.frame_tns.specs.Tns.{unused};
 ghost use Rattle.frame.specs.Frame.{judgedOf, judgedSized, judgedRead, arithmeticFrom, spectralFrom, spectralGiven, spectralCause, KeptOnCause, givenOf, spectrumOf, residualAfter, told};
-ghost use Rattle.frame.specs.Sound.{Sound, Sided, GoodSpectral, Bounded};
+ghost use Rattle.frame_coder.specs.Sound.{Sound};
+ghost use Rattle.frame_side.specs.Sound.{Sided};
+ghost use Rattle.frame.specs.Sound.{GoodSpectral, Bounded};
 
-mod bits;
-mod coder;
-mod pairs;
-mod residual;
-mod settings;
-mod side;
-mod tns;
 
-use coder::Coder;
-use pairs::PairSetting;
-use pairs::PairsRead;
-use residual::Left;
-use settings::Rate;
-use settings::Setting;
-pub use side::Flags;
-pub use side::Head;
-pub use side::Shape;
-pub use side::Side;
-use side::SideRead;
-pub use side::Tail;
-use tns::FilterRead;
+use frame_coder::Coder;
+use frame_pairs::PairSetting;
+use frame_pairs::PairsRead;
+use frame_residual::Left;
+use frame_settings::Rate;
+use frame_settings::Setting;
+pub use frame_side::Flags;
+pub use frame_side::Head;
+pub use frame_side::Shape;
+pub use frame_side::Side;
+use frame_side::SideRead;
+pub use frame_side::Tail;
+use frame_tns::FilterRead;
 
 // What an accepted frame says beside its TNS coefficients, spectrum and residual bits.
 pub struct Fields {
@@ -65,7 +60,7 @@ pub struct Reading {
 pub fn line_count(khz: u32) -> usize
     ensures { λ r. ⌜ r ≡ lineCount khz ⌝ }
 {
-    let known = settings::rate_setting(khz);
+    let known = frame_settings::rate_setting(khz);
     match known {
         Rate::Known(r) => r.lines,
         Rate::Unknown => 0,
@@ -89,7 +84,7 @@ pub fn read(khz: u32, frame: &[u8], spectrum: &mut [i32], residual: &mut [u8]) -
     ensures { λ r. ⌜ now (residual .exit) ≡ residualAfter (judgedOf khz (now (frame .entry)) (length (now (spectrum .entry))) (length (now (residual .entry)))) (now (residual .entry)) ⌝ }
     ensures { λ r. ⌜ Bounded (r .answer) (now (spectrum .exit)) ⌝ }
 {
-    let known = settings::rate_setting(khz);
+    let known = frame_settings::rate_setting(khz);
     let Rate::Known(r) = known else {
         return refused(Answer::Setting);
     };
@@ -115,9 +110,9 @@ fn read_sized(r: Setting, frame: &[u8], spectrum: &mut [i32], residual: &mut [u8
     if residual.len() != lines {
         return refused(Answer::Length);
     }
-    let got = side::read_side(frame, r);
+    let got = frame_side::read_side(frame, r);
     let SideRead::Value(v, p) = got else {
-        return refused(Answer::BitError(side::side_cause(got)));
+        return refused(Answer::BitError(frame_side::side_cause(got)));
     };
     read_arithmetic(r, v, p, frame, spectrum, residual)
 }
@@ -139,18 +134,18 @@ fn read_arithmetic(
 {
     let orders = coder_tables::tns_order();
     let rows = coder_tables::tns_coefficients();
-    let w = settings::tns_weighting(frame.len());
+    let w = frame_settings::tns_weighting(frame.len());
     let f = v.flags;
     let mut first = [0u8; 8];
     let mut second = [0u8; 8];
-    let start = coder::start(frame);
-    let got = tns::filter(frame, &orders, &rows, w, f.tns_0, &mut first, start);
+    let start = frame_coder::start(frame);
+    let got = frame_tns::filter(frame, &orders, &rows, w, f.tns_0, &mut first, start);
     let FilterRead::Value(m, c) = got else {
-        return refused(Answer::BitError(tns::filter_cause(got)));
+        return refused(Answer::BitError(frame_tns::filter_cause(got)));
     };
-    let got2 = tns::filter(frame, &orders, &rows, w, f.tns_1, &mut second, c);
+    let got2 = frame_tns::filter(frame, &orders, &rows, w, f.tns_1, &mut second, c);
     let FilterRead::Value(n, d) = got2 else {
-        return refused(Answer::BitError(tns::filter_cause(got2)));
+        return refused(Answer::BitError(frame_tns::filter_cause(got2)));
     };
     let got3 = read_spectral(r, v.head, d, p, frame, spectrum, residual);
     let SpectralRead::Value(symbols, count, _) = got3 else {
@@ -188,22 +183,22 @@ fn read_spectral(
     let cum = coder_tables::spectrum();
     let mut x = [0i32; 400];
     let mut levels = [0u8; 200];
-    let lsb = bits::wide(h.lsb_mode);
+    let lsb = frame_bits::wide(h.lsb_mode);
     let last = h.last_line as usize;
     let o = PairSetting {
         lsb,
-        offset: settings::rate_offset(r.index, frame.len()),
+        offset: frame_settings::rate_offset(r.index, frame.len()),
         half: r.lines / 2,
     };
-    let got = pairs::read_pairs(frame, &look, &cum, o, last / 2, c, p, &mut x, &mut levels);
+    let got = frame_pairs::read_pairs(frame, &look, &cum, o, last / 2, c, p, &mut x, &mut levels);
     let PairsRead::Value(d, q) = got else {
-        return SpectralRead::Cause(pairs::pairs_cause(got));
+        return SpectralRead::Cause(frame_pairs::pairs_cause(got));
     };
-    let got2 = residual::bits_left(frame.len(), q, d);
+    let got2 = frame_residual::bits_left(frame.len(), q, d);
     let Left::Value(left) = got2 else {
-        return SpectralRead::Cause(residual::left_cause(got2));
+        return SpectralRead::Cause(frame_residual::left_cause(got2));
     };
-    let count = residual::finish(
+    let count = frame_residual::finish(
         frame,
         lsb,
         last,

@@ -1,5 +1,5 @@
 -- The field's laws. Sum and product are total on the numbers, so most laws hold with no side condition; what is concluded to be 0 or 1 asks
--- that an element is below 16. Each law of the product is one test that antt computes at all elements.
+-- that an element is below 16. Each law of the product is one test that antt computes at all elements, on the digits of one number (Products).
 -- Assumes nothing.
 use mathlib.Core.Path.{_≡_, refl, sym, ap, ap₂, _∙_, subst}
 use mathlib.Core.Bool.{Bool, true, false}
@@ -13,6 +13,7 @@ use lib.Dec.{T, eqb, ltb, eqb→eq, ltb→lt}
 use borrow.Author.Tests.{eq-eqb, ne-eqb}
 use Rattle.laws.proofs.Every.{implies, implies-elim, both, both-left, both-right, at, at2, at3}
 use Rattle.gf16.specs.Field.{sum, expanded, lowered, reduced, product, power, inverse}
+use Rattle.gf16.proofs.Products.{looked, product-looked, looked-lt}
 
 -- ---- the sum
 
@@ -78,37 +79,50 @@ sum-same a b e = sym (sum-zero a) ∙ ap (λ (x : ℕ). sum a x) (sym e) ∙ can
 low : (a : ℕ) → a % 16 < 16
 low a = omega arith
 
-lt-test : ℕ → ℕ → Bool
-lt-test a b = ltb (reduced (expanded a b)) 16
-
 pub product-lt : (a b : ℕ) → product a b < 16
-unfolding product reduced lowered expanded lt-test
-product-lt a b = ltb→lt _ _ (at2 16 16 lt-test tt (a % 16) (b % 16) (low a) (low b))
+product-lt a b = subst (λ (x : ℕ). x < 16) (sym (product-looked a b)) (looked-lt (a % 16) (b % 16))
+
+mod-looked : (a b : ℕ) → product a b % 16 ≡ looked (a % 16) (b % 16)
+mod-looked a b = mod-eq-of-lt (product-lt a b) ∙ product-looked a b
 
 comm-test : ℕ → ℕ → Bool
-comm-test a b = eqb (reduced (expanded a b)) (reduced (expanded b a))
+comm-test a b = eqb (looked a b) (looked b a)
+
+looked-comm : (a b : ℕ) → a < 16 → b < 16 → looked a b ≡ looked b a
+unfolding looked comm-test
+looked-comm a b p q = eqb→eq _ _ (at2 16 16 comm-test tt a b p q)
 
 pub product-comm : (a b : ℕ) → product a b ≡ product b a
-unfolding product reduced lowered expanded comm-test
-product-comm a b = eqb→eq _ _ (at2 16 16 comm-test tt (a % 16) (b % 16) (low a) (low b))
+product-comm a b = product-looked a b ∙ looked-comm (a % 16) (b % 16) (low a) (low b) ∙ sym (product-looked b a)
 
 assoc-test : ℕ → ℕ → ℕ → Bool
-assoc-test a b c = eqb (reduced (expanded (reduced (expanded a b) % 16) c)) (reduced (expanded a (reduced (expanded b c) % 16)))
+assoc-test a b c = eqb (looked (looked a b) c) (looked a (looked b c))
+
+looked-assoc : (a b c : ℕ) → a < 16 → b < 16 → c < 16 → looked (looked a b) c ≡ looked a (looked b c)
+unfolding looked assoc-test
+looked-assoc a b c p q r = eqb→eq _ _ (at3 16 16 16 assoc-test tt a b c p q r)
 
 pub product-assoc : (a b c : ℕ) → product (product a b) c ≡ product a (product b c)
-unfolding product reduced lowered expanded assoc-test
-product-assoc a b c = eqb→eq _ _ (at3 16 16 16 assoc-test tt (a % 16) (b % 16) (c % 16) (low a) (low b) (low c))
+product-assoc a b c =
+    product-looked (product a b) c
+    ∙ ap (λ (x : ℕ). looked x (c % 16)) (mod-looked a b)
+    ∙ looked-assoc (a % 16) (b % 16) (c % 16) (low a) (low b) (low c)
+    ∙ ap (λ (x : ℕ). looked (a % 16) x) (sym (mod-looked b c))
+    ∙ sym (product-looked a (product b c))
 
 dist-test : ℕ → ℕ → ℕ → Bool
-dist-test a b c = eqb (reduced (expanded a (bitXor b c))) (bitXor (reduced (expanded a b)) (reduced (expanded a c)))
+dist-test a b c = eqb (looked a (bitXor b c)) (bitXor (looked a b) (looked a c))
 
-distributes : (a b c : ℕ) → reduced (expanded (a % 16) (sum (b % 16) (c % 16))) ≡ sum (product a b) (product a c)
-unfolding sum product reduced lowered expanded dist-test
-distributes a b c = eqb→eq _ _ (at3 16 16 16 dist-test tt (a % 16) (b % 16) (c % 16) (low a) (low b) (low c))
+looked-sum : (a b c : ℕ) → a < 16 → b < 16 → c < 16 → looked a (sum b c) ≡ sum (looked a b) (looked a c)
+unfolding sum looked dist-test
+looked-sum a b c p q r = eqb→eq _ _ (at3 16 16 16 dist-test tt a b c p q r)
 
 pub product-sum : (a b c : ℕ) → product a (sum b c) ≡ sum (product a b) (product a c)
-unfolding product
-product-sum a b c = ap (λ (x : ℕ). reduced (expanded (a % 16) x)) (sum-mod b c) ∙ distributes a b c
+product-sum a b c =
+    product-looked a (sum b c)
+    ∙ ap (λ (x : ℕ). looked (a % 16) x) (sum-mod b c)
+    ∙ looked-sum (a % 16) (b % 16) (c % 16) (low a) (low b) (low c)
+    ∙ ap₂ sum (sym (product-looked a b)) (sym (product-looked a c))
 
 pub sum-product : (a b c : ℕ) → product (sum a b) c ≡ sum (product a c) (product b c)
 sum-product a b c = product-comm (sum a b) c ∙ product-sum c a b ∙ ap₂ sum (product-comm c a) (product-comm c b)

@@ -5,7 +5,7 @@ use input::Input;
 use libc::STDERR_FILENO;
 use libc::STDIN_FILENO;
 use libc::STDOUT_FILENO;
-use record::Listed;
+use record_listing::Listed;
 
 fn main() {
     let mut bytes = [0u8; 65537];
@@ -15,7 +15,7 @@ fn main() {
         return;
     };
     let mut text = [0u8; 65536];
-    let listed = record::list(&bytes[..n], &mut text);
+    let listed = record_listing::list(&bytes[..n], &mut text);
     // Never taken: the buffer has the room that every listing fits.
     let Listed::From(at) = listed else {
         return;

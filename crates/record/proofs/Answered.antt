@@ -10,16 +10,17 @@ use lib.Dec.{leb, ltb, eqb}
 use lib.ListN.{length, getD, take, drop, length-append, length-take, List·getD-eq-default}
 use lib.Seq.{take-at, drop-at, take-take, length-take-le, getD-take}
 use borrow.Author.Tests.{leb-true, le-leb, lt-leb, lt-ltb, le-ltb, ltb-true, ltb-false, eqb-true, eq-eqb, ne-eqb}
-use Rattle.record.specs.declared.walk.Walked.the-variants as walked
-use Rattle.record.specs.Layout.{RecordEntry, big, trailer, entryBytes, entriesBytes, recordBytes, inRange, AllInRange, IsRecord, most}
-use Rattle.record.specs.Reading.{readRecord}
-use Rattle.record.specs.Answers.{located, accepted, refused, EntryAnswer, nowhere, newNumber, newBuffer, entriesOf, entriesAnswer, locate, entryOf, entryAnswer, frameAt, frameOf, framePart, mayAddTo, mayAdd, hasRoom, addOf, addAnswer, storedOf, addBuffer}
-use Rattle.record.specs.Steps.{walkOf, put, tailOf}
-use Rattle.record.specs.declared.Located.{Located}
-use Rattle.record.proofs.Numbers.{Bytes, length-big}
-use Rattle.record.proofs.Before.{and-left, and-right, in-range-of}
-use Rattle.record.proofs.Inverse.{length-entry, entries-one, length-one, count-most, is-read}
-use Rattle.record.proofs.Putting.{put-put}
+use Rattle.record_bytes.specs.declared.Walked.the-variants as walked
+use Rattle.record_bytes.specs.Layout.{RecordEntry, big, trailer, entryBytes, entriesBytes, recordBytes, inRange, AllInRange, IsRecord, most}
+use Rattle.record_bytes.specs.Reading.{readRecord}
+use Rattle.record_bytes.specs.Located.{located, nowhere, locate}
+use Rattle.record.specs.Answers.{accepted, refused, EntryAnswer, newNumber, newBuffer, entriesOf, entriesAnswer, entryOf, entryAnswer, frameAt, frameOf, framePart, mayAddTo, mayAdd, hasRoom, addOf, addAnswer, storedOf, addBuffer}
+use Rattle.record_bytes.specs.Steps.{walkOf, put, tailOf}
+use Rattle.record_bytes.specs.declared.Located.{Located}
+use Rattle.record_bytes.proofs.Numbers.{Bytes, length-big}
+use Rattle.record_bytes.proofs.Before.{and-left, and-right, in-range-of}
+use Rattle.record_bytes.proofs.Inverse.{length-entry, entries-one, length-one, count-most, is-read}
+use Rattle.record_bytes.proofs.Putting.{put-put}
 
 -- ---- a new record
 

@@ -12,17 +12,17 @@ use lib.ListN.{length, take, drop, replicate, length-append}
 use lib.Seq.{take-at, drop-at}
 use borrow.Author.Tests.{lt-ltb, leb-true, le-leb}
 use Rattle.record.specs.declared.Counted.the-variants as counts
-use Rattle.record.specs.declared.walk.Walked.the-variants as walked
-use Rattle.record.specs.Layout.{RecordEntry, big, trailer, entryBytes, entriesBytes, recordBytes, inRange, EntryInRange, IsRecord, most}
-use Rattle.record.specs.Reading.{number, entryEnding, mayEnd, entryBefore, readBack, readRecord}
-use Rattle.record.specs.Listing.{leading, decimal, field, line, lines, listing}
-use Rattle.record.specs.Answers.{located, Answer, accepted, refused, entriesOf, entriesAnswer, locate, entryAnswer, frameAt, framePart, mayAddTo, mayAdd, hasRoom, addAnswer, addBuffer}
-use Rattle.record.specs.Steps.{walkOf}
+use Rattle.record_bytes.specs.declared.Walked.the-variants as walked
+use Rattle.record_bytes.specs.Layout.{RecordEntry, big, trailer, entryBytes, entriesBytes, recordBytes, inRange, EntryInRange, IsRecord, most}
+use Rattle.record_bytes.specs.Reading.{number, entryEnding, mayEnd, entryBefore, readBack, readRecord}
+use Rattle.record_bytes.specs.Located.{located, locate}
+use Rattle.record.specs.Answers.{Answer, accepted, refused, entriesOf, entriesAnswer, entryAnswer, frameAt, framePart, mayAddTo, mayAdd, hasRoom, addAnswer, addBuffer}
+use Rattle.record_bytes.specs.Steps.{walkOf}
 use Rattle.record.specs.Meaning.{CountMeans, entryFrom, Stored}
-use Rattle.record.specs.declared.Located.{Located}
-use Rattle.record.proofs.Numbers.{Bytes, length-big}
-use Rattle.record.proofs.Before.{and-left, and-right}
-use Rattle.record.proofs.Inverse.{length-entry, entries-one, length-one, ranges-one, read-bytes, is-read}
+use Rattle.record_bytes.specs.declared.Located.{Located}
+use Rattle.record_bytes.proofs.Numbers.{Bytes, length-big}
+use Rattle.record_bytes.proofs.Before.{and-left, and-right}
+use Rattle.record_bytes.proofs.Inverse.{length-entry, entries-one, length-one, ranges-one, read-bytes, is-read}
 use Rattle.record.proofs.Answered.{bytes-take, allowed, whole-used}
 
 -- ---- reading is the inverse of the layout
@@ -194,9 +194,3 @@ example = record { frame = replicate 20 0; request = 3; count = 0 }
 example-length : length (recordBytes (example ∷ [])) ≡ 28
 unfolding recordBytes entriesBytes entryBytes trailer big
 example-length = refl
-
--- `records 1` and `0 20 3 0`, each with its newline
-pub example-listing : listing (recordBytes (example ∷ []))
-    ≡ 114 ∷ 101 ∷ 99 ∷ 111 ∷ 114 ∷ 100 ∷ 115 ∷ 32 ∷ 49 ∷ 10 ∷ 48 ∷ 32 ∷ 50 ∷ 48 ∷ 32 ∷ 51 ∷ 32 ∷ 48 ∷ 10 ∷ []
-unfolding recordBytes entriesBytes entryBytes trailer big listing readRecord readBack entryBefore entryEnding mayEnd number inRange lines line field decimal leading
-example-listing = refl

@@ -6,8 +6,8 @@ use mathlib.Core.List.{List, [], _∷_, _++_}
 use Prim.Native.Nat.{ℕ, zero, suc, _+_}
 use lib.ListN.{length, take, drop}
 use lib.Dec.{leb, ltb, eqb}
-use Rattle.record.specs.Layout.{RecordEntry, recordBytes, inRange, most}
-use Rattle.record.specs.Reading.{readRecord}
+use Rattle.record_bytes.specs.Layout.{RecordEntry, recordBytes, inRange, most}
+use Rattle.record_bytes.specs.Reading.{readRecord}
 use Rattle.record.specs.declared.Made.{Made}
 use Rattle.record.specs.declared.Made.the-variants as made
 use Rattle.record.specs.declared.Counted.{Counted}
@@ -16,7 +16,8 @@ use Rattle.record.specs.declared.Found.{Found}
 use Rattle.record.specs.declared.Found.the-variants as found
 use Rattle.record.specs.declared.Added.{Added}
 use Rattle.record.specs.declared.Added.the-variants as added
-use Rattle.record.specs.declared.Located.{Located}
+use Rattle.record_bytes.specs.declared.Located.{Located}
+use Rattle.record_bytes.specs.Located.{nowhere, locate}
 
 -- a number of document 01, and the one value that goes with it
 pub record Answer : Type 0 where
@@ -33,11 +34,6 @@ refused n = record { number = n; value = 0 }
 pub record EntryAnswer : Type 0 where
   pub number : ℕ
   pub entry : Located
-
-abbrev pub nowhere : Located
-nowhere = record { start = 0; length = 0; request = 0; count = 0 }
-
--- ---- the numbers of each case
 
 abbrev pub madeNumber : Made → ℕ
 madeNumber made.Empty = 0
@@ -60,8 +56,6 @@ addedAnswer added.BadSetting = refused 1
 addedAnswer added.NotRecord = refused 7
 addedAnswer added.NoRoom = refused 6
 
--- ---- a new record
-
 -- "in a buffer shorter than 4 gives 6"
 unfoldable pub newNumber : List ℕ → ℕ
 newNumber buffer = cond (leb 4 (length buffer)) 0 6
@@ -70,26 +64,12 @@ newNumber buffer = cond (leb 4 (length buffer)) 0 6
 unfoldable pub newBuffer : List ℕ → List ℕ
 newBuffer buffer = cond (leb 4 (length buffer)) (recordBytes [] ++ drop 4 buffer) buffer
 
--- ---- the number of entries
-
 abbrev pub entriesOf : Option (List RecordEntry) → Answer
 entriesOf none = refused 7
 entriesOf (some es) = accepted (length es)
 
 unfoldable pub entriesAnswer : List ℕ → Answer
 entriesAnswer s = entriesOf (readRecord s)
-
--- ---- an entry by place, "the oldest being 0"
-
--- an entry's fields, with the place where its frame starts
-abbrev pub located : RecordEntry → ℕ → Located
-located e start = record { start = start; length = length (e .frame); request = e .request; count = e .count }
-
--- of the entry at `place` among those that stand from `start` on: where its frame stands, and its fields
-abbrev pub locate : List RecordEntry → ℕ → ℕ → Located
-locate [] place start = nowhere
-locate (e ∷ es) zero start = located e start
-locate (e ∷ es) (suc place) start = locate es place (start + (length (e .frame) + 4))
 
 -- "a place that isn't below the number of entries is a 1, checked after the 7"
 abbrev pub entryOf : Option (List RecordEntry) → ℕ → EntryAnswer
@@ -111,8 +91,6 @@ frameOf (some es) place = frameAt es place
 
 unfoldable pub framePart : List ℕ → ℕ → List ℕ
 framePart s place = frameOf (readRecord s) place
-
--- ---- adding an entry
 
 -- "the used length (above the buffer's length or above 65,536: 1) and an entry (field out of range, or a frame not of its length: 1)"
 unfoldable pub mayAddTo : ℕ → ℕ → ℕ → ℕ → ℕ → ℕ → Bool

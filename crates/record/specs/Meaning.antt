@@ -4,8 +4,9 @@ use mathlib.Core.Path.{_≡_}
 use mathlib.Core.List.{List}
 use Prim.Native.Nat.{ℕ, suc, _-_, _<_}
 use lib.ListN.{length, take, drop}
-use Rattle.record.specs.Layout.{RecordEntry, entryBytes, IsRecord}
-use Rattle.record.specs.Answers.{accepted, EntryAnswer, located, entriesAnswer, entryAnswer, framePart}
+use Rattle.record_bytes.specs.Layout.{RecordEntry, entryBytes, IsRecord}
+use Rattle.record.specs.Answers.{accepted, EntryAnswer, entriesAnswer, entryAnswer, framePart}
+use Rattle.record_bytes.specs.Located.{located}
 use Rattle.record.specs.declared.Counted.{Counted}
 use Rattle.record.specs.declared.Counted.the-variants as counted
 use Rattle.record.specs.declared.Added.{Added}

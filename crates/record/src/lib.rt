@@ -1,32 +1,20 @@
 // The session record of document 01: entries of a frame, a request and a count, one after the other, then their number.
 // It stands over nothing. Each public function is total and equals its definition in specs/Answers.antt or specs/Listing.antt, the
 // lent buffer too; specs/Layout.antt says which bytes a list of entries is. Nothing is written before the last test.
-mod listing;
-mod put;
-mod walk;
 
 ghost use mathlib.Core.Path.{_≡_};
-ghost use Rattle.record.specs.Layout.{RecordEntry};
+ghost use Rattle.record_bytes.specs.Layout.{RecordEntry};
 ghost use Rattle.record.specs.Answers.{madeNumber, newNumber, newBuffer, countedAnswer, entriesAnswer, foundAnswer, entryAnswer, framePart, mayAddTo, addedAnswer, addAnswer, addBuffer};
 ghost use Rattle.record.specs.Meaning.{CountMeans, StoredBy};
-pub use listing::Listed;
-pub use listing::list;
-use put::copy_in;
-use put::end_number;
-use put::tail;
-use walk::Walked;
-use walk::in_range;
-use walk::walk;
-use walk::wide2;
-use walk::wide4;
-
-// Where an entry's frame stands in the record, and the entry's fields.
-pub struct Located {
-    pub start: u32,
-    pub length: u16,
-    pub request: u8,
-    pub count: u8,
-}
+pub use record_bytes::Located;
+use record_bytes::copy_in;
+use record_bytes::end_number;
+use record_bytes::tail;
+use record_bytes::Walked;
+use record_bytes::in_range;
+use record_bytes::walk;
+use record_bytes::wide2;
+use record_bytes::wide4;
 
 // What making a record answers.
 pub enum Made {

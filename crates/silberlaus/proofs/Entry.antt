@@ -10,20 +10,20 @@ use lib.Dec.{leb, ltb, eqb}
 use lib.ListN.{length}
 use lib.IntN.{ℤ}
 use borrow.Author.Tests.{le-leb, ltb-true, ltb-false, eq-eqb, ne-eqb}
-use Rattle.frame.specs.Settings.{setting, rateOf, linesAt, lineCount}
+use Rattle.frame_settings.specs.Settings.{setting, rateOf, linesAt, lineCount}
 use Rattle.frame.specs.Frame.{Judged, refused, judgedRead, judgedAt, judgedOf, frameOf, Given, answered, told, givenOf, refusedWith, spectrumOf, residualAfter}
 use Rattle.frame.specs.Sound as sound
-use Rattle.frame.specs.declared.settings.Setting.{Setting}
-use Rattle.frame.specs.declared.settings.Rate.{Rate}
-use Rattle.frame.specs.declared.settings.Rate.the-variants as rate
+use Rattle.frame_settings.specs.declared.Setting.{Setting}
+use Rattle.frame_settings.specs.declared.Rate.{Rate}
+use Rattle.frame_settings.specs.declared.Rate.the-variants as rate
 use Rattle.frame.specs.declared.Reading.{Reading}
 use Rattle.frame.specs.declared.Answer.{Answer}
 use Rattle.frame.specs.declared.Answer.the-variants as answer
-use Rattle.record.specs.Layout.{RecordEntry}
-use Rattle.record.specs.Reading.{readRecord}
+use Rattle.record_bytes.specs.Layout.{RecordEntry}
+use Rattle.record_bytes.specs.Reading.{readRecord}
 use Rattle.record.specs.Answers.{frameAt, entryOf, entryAnswer, framePart}
 use Rattle.record.specs.Answers as part
-use Rattle.record.proofs.Numbers.{Bytes}
+use Rattle.record_bytes.proofs.Numbers.{Bytes}
 use Rattle.record.proofs.Answered.{frame-sized, frame-past, frame-missing}
 use Rattle.silberlaus.specs.Frames.{frameGiven, judgedPlace, judgedIn, judgedEntry, missing, Bounded}
 use Rattle.silberlaus.specs.declared.frames.SilberlausFrame.{SilberlausFrame}

@@ -6,11 +6,11 @@ use Prim.Native.Nat.{ℕ, _≤_}
 use native.Mathlib.Omega.{arith}
 use borrow.Author.Tests.{le-ltb}
 use Rattle.gf16.specs.Field.{product, expanded, reduced, lowered}
-use Rattle.code_word.proofs.Division.{generators}
-use Rattle.slot.specs.Sizes.{words, wordLength}
-use Rattle.frame.specs.Settings.{rateOf}
-use Rattle.frame.specs.Side.{headOf}
-use Rattle.record.specs.Layout.{recordBytes, entriesBytes, big}
+use Rattle.code_word_laws.proofs.Division.{generators}
+use Rattle.slot_laws.specs.Sizes.{words, wordLength}
+use Rattle.frame_settings.specs.Settings.{rateOf}
+use Rattle.frame_side.specs.Side.{headOf}
+use Rattle.record_bytes.specs.Layout.{recordBytes, entriesBytes, big}
 use Rattle.silberlaus.specs.SmallSums.{SmallSums}
 
 pub small-sums :

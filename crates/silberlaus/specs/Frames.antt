@@ -6,15 +6,15 @@ use Prim.Native.Nat.{ℕ, zero, suc, _+_, _*_, _≤_}
 use lib.Dec.{ltb, eqb}
 use lib.ListN.{length}
 use lib.IntN.{ℤ}
-use Rattle.frame.specs.Settings.{rateOf}
+use Rattle.frame_settings.specs.Settings.{rateOf}
 use Rattle.frame.specs.Frame.{Judged, refused, judgedRead, frameOf, Given}
-use Rattle.frame.specs.Sound.{Small}
-use Rattle.frame.specs.declared.settings.Setting.{Setting}
-use Rattle.frame.specs.declared.settings.Rate.{Rate}
-use Rattle.frame.specs.declared.settings.Rate.the-variants as rate
+use Rattle.frame_pairs.specs.Sound.{Small}
+use Rattle.frame_settings.specs.declared.Setting.{Setting}
+use Rattle.frame_settings.specs.declared.Rate.{Rate}
+use Rattle.frame_settings.specs.declared.Rate.the-variants as rate
 use Rattle.frame.specs.declared.Fields.{Fields}
-use Rattle.record.specs.Layout.{RecordEntry}
-use Rattle.record.specs.Reading.{readRecord}
+use Rattle.record_bytes.specs.Layout.{RecordEntry}
+use Rattle.record_bytes.specs.Reading.{readRecord}
 use Rattle.record.specs.Answers.{frameAt, entryAnswer}
 use Rattle.silberlaus.specs.declared.frames.SilberlausFrame.{SilberlausFrame}
 

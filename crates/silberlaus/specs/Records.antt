@@ -4,7 +4,7 @@ use mathlib.Core.Path.{_≡_}
 use mathlib.Core.List.{List}
 use Prim.Native.Nat.{ℕ, zero, suc}
 use lib.ListN.{length}
-use Rattle.record.specs.Layout.{RecordEntry, IsRecord}
+use Rattle.record_bytes.specs.Layout.{RecordEntry, IsRecord}
 use Rattle.record.specs.Answers.{Answer, EntryAnswer}
 use Rattle.record.specs.Meaning.{Stored}
 

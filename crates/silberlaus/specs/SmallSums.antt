@@ -3,16 +3,16 @@ use mathlib.Core.Path.{_≡_}
 use mathlib.Core.List.{List, [], _∷_}
 use Prim.Native.Nat.{ℕ, zero, suc, _+_, _*_, _%_, _^_, _≤_}
 use Rattle.gf16.specs.Field.{product}
-use Rattle.code_word.specs.Polynomial.{generator}
-use Rattle.slot.specs.Sizes.{words, wordLength}
-use Rattle.frame.specs.Read.{value, cause}
-use Rattle.frame.specs.Settings.{rateOf}
-use Rattle.frame.specs.Bits.{readBits}
-use Rattle.frame.specs.Side.{headOf}
-use Rattle.frame.specs.Pairs.{contextOf}
-use Rattle.frame.specs.declared.settings.Setting.{Setting}
-use Rattle.frame.specs.declared.settings.Rate.the-variants as rate
-use Rattle.record.specs.Layout.{recordBytes}
+use Rattle.code_word_laws.specs.Polynomial.{generator}
+use Rattle.slot_laws.specs.Sizes.{words, wordLength}
+use Rattle.frame_bits.specs.Read.{value, cause}
+use Rattle.frame_settings.specs.Settings.{rateOf}
+use Rattle.frame_bits.specs.Bits.{readBits}
+use Rattle.frame_side.specs.Side.{headOf}
+use Rattle.frame_pairs.specs.Pairs.{contextOf}
+use Rattle.frame_settings.specs.declared.Setting.{Setting}
+use Rattle.frame_settings.specs.declared.Rate.the-variants as rate
+use Rattle.record_bytes.specs.Layout.{recordBytes}
 
 -- a value whose escapes all had a 1, n of them
 abbrev pub allSet : ℕ → ℕ

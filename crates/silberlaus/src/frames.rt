@@ -1,7 +1,7 @@
 // A frame read into its fields under C names, lent as it is or as an entry of a record, and the number of lines. It stands over `frame` and `record`.
 ghost use mathlib.Core.Path.{_≡_};
 ghost use lib.ListN.{length};
-ghost use Rattle.frame.specs.Settings.{lineCount};
+ghost use Rattle.frame_settings.specs.Settings.{lineCount};
 ghost use Rattle.frame.specs.Frame.{judgedOf, noFields, refusedWith, givenOf, spectrumOf, residualAfter, told};
 ghost use Rattle.silberlaus.specs.Frames.{given, frameGiven, judgedEntry, missing, Bounded};
 use frame::Answer;

@@ -1,6 +1,6 @@
 // A slot of Annex A.1 under C names: its frame's size, protecting and unprotecting. It stands over `slot`.
 ghost use mathlib.Core.Path.{_≡_};
-ghost use Rattle.slot.specs.Sizes.{IsFrameSize};
+ghost use Rattle.slot_laws.specs.Sizes.{IsFrameSize};
 ghost use Rattle.slot.specs.Protect.{Protects};
 ghost use Rattle.slot.specs.Unprotect.{Unprotects};
 use slot::Protection;

@@ -9,19 +9,20 @@ use borrow.Author.Tests.{eqb-true, eq-eqb}
 use Rattle.laws.specs.Tab.{Below}
 use Rattle.laws.proofs.Tab.{total-zero}
 use Rattle.laws.proofs.Spread.{total-nil}
-use Rattle.code_word.specs.Word.{unequal, apart, distance}
-use Rattle.code_word.proofs.Division.{unique}
-use Rattle.slot.specs.Sizes.{InRange, words}
-use Rattle.slot.specs.Semi.{Bytes, semi}
-use Rattle.slot.specs.Words.{signature, received}
-use Rattle.slot.specs.Slot.{Sent, slotOf, wordIn}
-use Rattle.slot.specs.Changes.{changed, changes, changesIn, AtMost}
+use Rattle.code_word_laws.specs.Word.{unequal, apart, distance}
+use Rattle.code_word_laws.proofs.Division.{unique}
+use Rattle.slot_laws.specs.Sizes.{InRange, words}
+use Rattle.slot_laws.specs.Semi.{Bytes, semi}
+use Rattle.slot_laws.specs.Words.{signature, received}
+use Rattle.slot_laws.specs.Slot.{Sent, slotOf, wordIn}
+use Rattle.slot_laws.specs.Changes.{changed, changes, changesIn, AtMost}
 use Rattle.slot.specs.Protect.{Lengths, Protects}
-use Rattle.slot.specs.Unprotect.{Corrected, Taken, IsAccepted, Unprotects}
+use Rattle.slot_laws.specs.Corrected.{Corrected}
+use Rattle.slot.specs.Unprotect.{Taken, IsAccepted, Unprotects}
 use Rattle.slot.specs.Demand.{DemandThree}
-use Rattle.slot.proofs.Semi.{semi-same}
-use Rattle.slot.proofs.Places.{changes-words, changes-word}
-use Rattle.slot.proofs.Slot.{words-in, AllValid, bytes-slot-of, valid-slot}
+use Rattle.slot_laws.proofs.Semi.{semi-same}
+use Rattle.slot_laws.proofs.Places.{changes-words, changes-word}
+use Rattle.slot_laws.proofs.Slot.{words-in, AllValid, bytes-slot-of, valid-slot}
 use Rattle.slot.proofs.Rule.{same-words, word-fits, word-semi-octets, verdict-only}
 
 -- ---- changed places

@@ -5,18 +5,19 @@ use mathlib.Core.List.{List}
 use Prim.Native.Nat.{ℕ, zero, suc, _≤_, _<_}
 use native.Mathlib.Omega.{arith}
 use lib.ListN.{length}
-use Rattle.code_word.specs.Word.{SemiOctets}
-use Rattle.code_word.proofs.Division.{nearest}
-use Rattle.slot.specs.Sizes.{InRange, words}
-use Rattle.slot.specs.Semi.{Bytes}
-use Rattle.slot.specs.Words.{signature, received}
-use Rattle.slot.specs.Slot.{slotOf, wordIn}
-use Rattle.slot.specs.Changes.{changes}
-use Rattle.slot.specs.Unprotect.{Corrected, SomeBeyond, Taken, IsAccepted, Refused, IsForeign, Unprotects}
-use Rattle.slot.proofs.Sizes.{length-high}
-use Rattle.slot.proofs.Semi.{semi-octets-of}
-use Rattle.slot.proofs.Places.{slot-received, slot-same}
-use Rattle.slot.proofs.Slot.{signature-lt, words-in, AllValid, requestFrom, frameFrom, HashesMatch, sent-from, slot-read, request-slot, frame-slot, matches-slot}
+use Rattle.code_word_laws.specs.Word.{SemiOctets}
+use Rattle.code_word_laws.proofs.Division.{nearest}
+use Rattle.slot_laws.specs.Sizes.{InRange, words}
+use Rattle.slot_laws.specs.Semi.{Bytes}
+use Rattle.slot_laws.specs.Words.{signature, received}
+use Rattle.slot_laws.specs.Slot.{slotOf, wordIn}
+use Rattle.slot_laws.specs.Changes.{changes}
+use Rattle.slot_laws.specs.Corrected.{Corrected, SomeBeyond}
+use Rattle.slot.specs.Unprotect.{Taken, IsAccepted, Refused, IsForeign, Unprotects}
+use Rattle.slot_laws.proofs.Sizes.{length-high}
+use Rattle.slot_laws.proofs.Semi.{semi-octets-of}
+use Rattle.slot_laws.proofs.Places.{slot-received, slot-same}
+use Rattle.slot_laws.proofs.Slot.{signature-lt, words-in, AllValid, requestFrom, frameFrom, HashesMatch, sent-from, slot-read, request-slot, frame-slot, matches-slot}
 
 -- ---- the corrected slot is the only one
 

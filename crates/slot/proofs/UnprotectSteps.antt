@@ -1,29 +1,30 @@
 -- What the code of unprotecting asks at its returns: the answer from the words corrected and the heading compared, and demand 3 of two calls.
 -- Assumes nothing.
-use mathlib.Core.Path.{_≡_, sym, ap, ap₂, _∙_}
+use mathlib.Core.Path.{_≡_, sym, ap, _∙_}
 use mathlib.Core.Bool.{true, false}
 use mathlib.Core.List.{List}
 use Prim.Native.Nat.{ℕ, zero, suc, _+_, _*_, _-_, _/_, _≤_}
 use native.Mathlib.Omega.{arith}
-use lib.ListN.{length, getD, take, drop, length-drop}
-use lib.Seq.{length-take-le, take-all}
+use lib.ListN.{length, getD, take}
+use lib.Seq.{length-take-le}
 use Rattle.laws.specs.Tab.{Below}
 use Rattle.laws.proofs.Tab.{below-take}
-use Rattle.slot.specs.Sizes.{words, hash1, hash2, frameSize}
-use Rattle.slot.specs.Order.{mixed, Data}
-use Rattle.slot.specs.Slot.{slotWith}
+use Rattle.slot_laws.specs.Sizes.{words, hash1, hash2, frameSize}
+use Rattle.slot_laws.specs.Order.{mixed, Data}
+use Rattle.slot_laws.specs.Slot.{slotWith}
 use Rattle.slot.specs.Protect.{Settings, Lengths, Protects}
 use Rattle.slot.specs.Unprotect.{Taken, Unprotects}
 use Rattle.slot.specs.Demand.{DemandThree}
-use Rattle.slot.specs.Back.{rolled, requestIn, restIn, Matches, requestOf, frameOf}
-use Rattle.slot.specs.Inner.{MendedTo, IsDelivered}
-use Rattle.slot.proofs.Slot.{gathered-slot, requestFrom, frameFrom, HashesMatch}
-use Rattle.slot.proofs.Order.{data-mixed}
+use Rattle.slot_laws.specs.Back.{rolled, requestIn, restIn, Matches, requestOf, frameOf}
+use Rattle.slot_repair.specs.Inner.{MendedTo}
+use Rattle.slot_delivery.specs.Inner.{IsDelivered}
+use Rattle.slot_laws.proofs.Slot.{gathered-slot, requestFrom, frameFrom, HashesMatch}
+use Rattle.slot_laws.proofs.Order.{data-mixed}
 use Rattle.slot.proofs.Rule.{accepts, refuses}
 use Rattle.slot.proofs.Demand.{demand-three}
-use Rattle.slot.proofs.PlaceSteps.{zeros-at}
-use Rattle.slot.proofs.ProtectSteps.{blanks}
-use Rattle.slot.proofs.ReceiveSteps.{corrected-slot, count-changes}
+use Rattle.slot_interleaving.proofs.PlaceSteps.{zeros-at}
+use Rattle.slot_laws.proofs.ProtectSteps.{blanks}
+use Rattle.slot_repair.proofs.ReceiveSteps.{corrected-slot, count-changes}
 
 -- room for the data
 pub data-blank : (size mode e : ℕ) → e ≡ 2 * hash1 size + 2 * hash2 size mode + 2 * frameSize size mode → e ≤ 800 → Data size mode (take e blanks)
@@ -31,15 +32,6 @@ data-blank size mode e h l = record {
   long = length-take-le e blanks l ∙ h;
   below = below-take 16 e blanks (omega arith) (λ i. let z = zeros-at 800 i in omega arith);
 }
-
--- the frame as the code rolls it
-pub rolled-is : (size mode h : ℕ) (order old new : List ℕ) → length old ≡ frameSize size mode → h ≡ 2 * hash1 size + 2 * hash2 size mode
-    → new ≡ rolled (length old) (take (length order - h) (drop h order)) → new ≡ rolled (frameSize size mode) (restIn size mode order)
-unfolding restIn
-rolled-is size mode h order old new l k g =
-    let d = length-drop h order in
-    let t : take (length order - h) (drop h order) ≡ drop h order = take-all (length order - h) (drop h order) (omega arith) in
-    g ∙ ap₂ rolled l (t ∙ ap (λ (n : ℕ). drop n order) k)
 
 -- the words mended, the swap undone, the heading compared, the frame written or not
 module _ (size mode : ℕ) (slot old new info order : List ℕ) (count : ℕ) (taken : Taken size mode slot old)

@@ -4,7 +4,7 @@ use mathlib.Core.Path.{_≡_}
 use mathlib.Core.Logic.{_↔_}
 use mathlib.Core.List.{List}
 use Prim.Native.Nat.{ℕ, _-_, _*_}
-use Rattle.slot.specs.Changes.{changes, AtMost}
+use Rattle.slot_laws.specs.Changes.{changes, AtMost}
 use Rattle.slot.specs.Protect.{Settings, Lengths, Protects}
 use Rattle.slot.specs.Unprotect.{Clean}
 

@@ -5,8 +5,8 @@ use mathlib.Core.List.{List}
 use Prim.Native.Nat.{ℕ, zero, suc, _<_}
 use lib.ListN.{length}
 use Rattle.laws.specs.Tab.{Below}
-use Rattle.slot.specs.Sizes.{InRange, frameSize}
-use Rattle.slot.specs.Slot.{slotOf}
+use Rattle.slot_laws.specs.Sizes.{InRange, frameSize}
+use Rattle.slot_laws.specs.Slot.{slotOf}
 use Rattle.slot.specs.declared.Protection.{Protection}
 use Rattle.slot.specs.declared.Protection.the-variants.{Protected, Setting, Length}
 

@@ -2,27 +2,15 @@
 -- Assumes nothing.
 use mathlib.Core.Path.{_≡_}
 use mathlib.Core.List.{List}
-use Prim.Native.Nat.{ℕ, zero, suc, _<_}
+use Prim.Native.Nat.{ℕ, zero, suc}
 use Rattle.laws.specs.Tab.{Below}
-use Rattle.code_word.specs.Correct.{Near}
-use Rattle.slot.specs.Sizes.{InRange, words}
-use Rattle.slot.specs.Semi.{Bytes}
-use Rattle.slot.specs.Slot.{Sent, slotOf, wordIn}
-use Rattle.slot.specs.Changes.{changes}
+use Rattle.slot_laws.specs.Sizes.{InRange}
+use Rattle.slot_laws.specs.Slot.{Sent, slotOf}
+use Rattle.slot_laws.specs.Changes.{changes}
 use Rattle.slot.specs.Protect.{Lengths}
 use Rattle.slot.specs.declared.Reception.{Reception}
 use Rattle.slot.specs.declared.Reception.the-variants.{Accepted, Setting, Length, Beyond, Foreign}
-
--- c is the slot with every word of the received one corrected: to a valid word of its own length within m - 1 places
-pub record Corrected (size mode : ℕ) (slot c : List ℕ) : Type 0 where
-  pub bytes : Bytes size c
-  pub near : (i : ℕ) → i < words size → Near mode (wordIn size mode slot i) (wordIn size mode c i)
-
--- some word has no valid word of its own length within m - 1 semi-octets
-pub record SomeBeyond (size mode : ℕ) (slot : List ℕ) : Type 0 where
-  pub word : ℕ
-  pub inside : word < words size
-  pub none : (w : List ℕ) → Near mode (wordIn size mode slot word) w → ⊥
+use Rattle.slot_laws.specs.Corrected.{Corrected, SomeBeyond}
 
 -- a call that gets neither 1 nor 2
 pub record Taken (size mode : ℕ) (slot old : List ℕ) : Type 0 where

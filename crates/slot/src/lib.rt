@@ -4,19 +4,13 @@
 ghost use mathlib.Core.Path.{_≡_};
 ghost use Prim.Native.Nat.{_<_};
 ghost use lib.ListN.{length};
-ghost use Rattle.slot.specs.Sizes.{InRange, IsFrameSize, frameSize};
-ghost use Rattle.slot.specs.Order.{Data};
+ghost use Rattle.slot_laws.specs.Sizes.{InRange, IsFrameSize, frameSize};
+ghost use Rattle.slot_laws.specs.Order.{Data};
 ghost use Rattle.slot.specs.Protect as protecting;
 ghost use Rattle.slot.specs.Unprotect as unprotecting;
 ghost use Rattle.slot.specs.Demand.{Sends, Carried};
-ghost use Rattle.slot.specs.Back.{requestIn};
-ghost use Rattle.slot.specs.Inner.{IsDelivered};
-
-mod geometry;
-mod hashing;
-mod interleaving;
-mod ordering;
-mod receiving;
+ghost use Rattle.slot_laws.specs.Back.{requestIn};
+use slot_repair::Outcome;
 
 // Whether a slot was made; document 01's 0, 1 and 2.
 pub enum Protection {
@@ -34,19 +28,13 @@ pub enum Reception {
     Foreign,
 }
 
-// Whether every word was corrected: the count of all changes, or a word beyond repair.
-enum Repair {
-    Repaired(u16),
-    Beyond,
-}
-
 // The bytes of a frame in a slot of this size; 0 where a setting is out of range.
 pub fn frame_size(size: usize, mode: u32) -> usize
     ensures { λ r. ⌜ IsFrameSize size mode r ⌝ }
 {
     match size {
         40..=400 => match mode {
-            2..=4 => geometry::frame_bytes(size, mode as usize),
+            2..=4 => slot_sizes::frame_bytes(size, mode as usize),
             _ => 0,
         },
         _ => 0,
@@ -79,19 +67,19 @@ fn protect_sized(
     requires { ⌜ (InRange size mode) × (request < 4) ⌝ }
     ensures { λ r. ⌜ protecting.Protects size mode request (now (frame .entry)) (now (slot .entry)) (now (slot .exit)) (protecting.numberOf r) ⌝ }
 {
-    let n = geometry::frame_bytes(size, mode);
+    let n = slot_sizes::frame_bytes(size, mode);
     if frame.len() != n {
         return Protection::Length;
     }
     if slot.len() != size {
         return Protection::Length;
     }
-    let e = 2 * geometry::first_hash_size(size)
-        + 2 * geometry::second_hash_size(size, mode)
+    let e = 2 * slot_sizes::first_hash_size(size)
+        + 2 * slot_sizes::second_hash_size(size, mode)
         + 2 * n;
     let mut info = [0u8; 800];
-    ordering::arrange(size, mode, request, frame, &mut info[..e]);
-    interleaving::write_slot(size, mode, &info[..e], slot);
+    slot_ordering::arrange(size, mode, request, frame, &mut info[..e]);
+    slot_interleaving::write_slot(size, mode, &info[..e], slot);
     Protection::Protected
 }
 
@@ -112,31 +100,18 @@ fn unprotect_sized(size: usize, mode: usize, slot: &[u8], frame: &mut [u8]) -> R
     requires { ⌜ InRange size mode ⌝ }
     ensures { λ r. ⌜ unprotecting.Unprotects size mode (now (slot .entry)) (now (frame .entry)) (now (frame .exit)) (unprotecting.numberOf r) (unprotecting.requestOf r) (unprotecting.countOf r) ⌝ }
 {
-    let n = geometry::frame_bytes(size, mode);
+    let n = slot_sizes::frame_bytes(size, mode);
     if frame.len() != n {
         return Reception::Length;
     }
     if slot.len() != size {
         return Reception::Length;
     }
-    let e = 2 * geometry::first_hash_size(size)
-        + 2 * geometry::second_hash_size(size, mode)
+    let e = 2 * slot_sizes::first_hash_size(size)
+        + 2 * slot_sizes::second_hash_size(size, mode)
         + 2 * n;
     let mut info = [0u8; 800];
     judge(size, mode, slot, &mut info[..e], frame)
-}
-
-// The frame, written where the heading matches and nowhere else.
-fn deliver(size: usize, mode: usize, request: u32, info: &[u8], frame: &mut [u8]) -> bool
-    requires { ⌜ (InRange size mode) × (request ≡ requestIn size (now info)) × (Data size mode (now info)) × (length (now frame) ≡ frameSize size mode) ⌝ }
-    ensures { λ r. ⌜ IsDelivered size mode (now (info .entry)) (now (frame .entry)) (now (frame .exit)) r ⌝ }
-{
-    let h = 2 * geometry::first_hash_size(size) + 2 * geometry::second_hash_size(size, mode);
-    if !receiving::matches(size, mode, request, info) {
-        return false;
-    }
-    receiving::roll(&info[h..], frame);
-    true
 }
 
 // Every word corrected, then the heading compared and the frame written; info is room for the data.
@@ -144,13 +119,13 @@ fn judge(size: usize, mode: usize, slot: &[u8], info: &mut [u8], frame: &mut [u8
     requires { ⌜ (InRange size mode) × (length (now slot) ≡ size) × (Data size mode (now info)) × (length (now frame) ≡ frameSize size mode) ⌝ }
     ensures { λ r. ⌜ unprotecting.Unprotects size mode (now (slot .entry)) (now (frame .entry)) (now (frame .exit)) (unprotecting.numberOf r) (unprotecting.requestOf r) (unprotecting.countOf r) ⌝ }
 {
-    let Repair::Repaired(count) = receiving::mend_all(size, mode, slot, info) else {
+    let Outcome::Repaired(count) = slot_repair::mend_all(size, mode, slot, info) else {
         return Reception::Beyond;
     };
-    ordering::mix(size, mode, info);
-    let at = 2 * geometry::first_hash_size(size) - 1;
+    slot_ordering::mix(size, mode, info);
+    let at = 2 * slot_sizes::first_hash_size(size) - 1;
     let request = info[at] / 4;
-    if !deliver(size, mode, request as u32, info, frame) {
+    if !slot_delivery::deliver(size, mode, request as u32, info, frame) {
         return Reception::Foreign;
     }
     Reception::Accepted(request, count)

@@ -4,7 +4,7 @@ use Prim.Native.Nat.{_≤_}
 use native.Mathlib.Omega.{arith}
 use lib.ListN.{length}
 use borrow.Author.Needs.{needs}
-use Rattle.code_word.proofs.Promises.{told-no, told-yes, none-asked, none-fitting, none-fitting-longer, none-elements, dealt-out, all-corrected}
+use Rattle.code_word_laws.proofs.Promises.{told-no, told-yes, none-asked, none-fitting, none-fitting-longer, none-elements, dealt-out, all-corrected}
 use Rattle.code_word.proofs.correct_each.Statement.{statement}
 use Rattle.code_word.proofs.correct_each.Tie as tie
 

@@ -4,9 +4,9 @@ use Prim.Native.Nat.{_*_, _-_}
 use native.Mathlib.Omega.{arith}
 use lib.ListN.{length, drop}
 use borrow.Author.Needs.{needs}
-use Rattle.code_word.specs.Word.{SemiOctets, Fits}
-use Rattle.code_word.proofs.Promises.{told-no, told-yes, not-made-fitting}
-use Rattle.code_word.proofs.Encoding as encoding
+use Rattle.code_word_laws.specs.Word.{SemiOctets, Fits}
+use Rattle.code_word_laws.proofs.Promises.{told-no, told-yes, not-made-fitting}
+use Rattle.code_word_laws.proofs.Encoding as encoding
 use Rattle.code_word.proofs.make.Statement.{statement}
 use Rattle.code_word.proofs.make.Tie as tie
 

@@ -2,7 +2,7 @@
 use native.Mathlib.Omega.{arith}
 use borrow.Author.Needs.{needs}
 use borrow.Author.Tests.{lt-ltb, le-ltb}
-use Rattle.code_word.specs.Checks.{withData}
+use Rattle.code_word_laws.specs.Checks.{withData}
 use Rattle.code_word.proofs.with_data.Statement.{statement}
 use Rattle.code_word.proofs.with_data.Tie as tie
 

@@ -3,8 +3,8 @@ use lib.Seq.{length-take-le}
 use native.Mathlib.Omega.{arith}
 use mathlib.Core.Path.{sym, ap, _∙_}
 use borrow.Author.Needs.{needs}
-use Rattle.record.specs.Listing.{listedAnswer}
-use Rattle.record.proofs.Lines.{listed-most}
+use Rattle.record_listing.specs.Listing.{listedAnswer}
+use Rattle.record_listing.proofs.Lines.{listed-most}
 use Rattle.day.proofs.show.Statement.{statement}
 use Rattle.day.proofs.show.Tie as tie
 

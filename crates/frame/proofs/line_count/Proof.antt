@@ -3,7 +3,7 @@ use borrow.Author.Needs.{needs}
 use Rattle.frame.proofs.line_count.Statement.{statement}
 use Rattle.frame.proofs.line_count.Tie as tie
 use mathlib.Core.Path.{sym, ap, _∙_}
-use Rattle.frame.specs.Settings.{lineCount, linesAt}
+use Rattle.frame_settings.specs.Settings.{lineCount, linesAt}
 
 rate-setting-requires : tie.Need-rate-setting-requires
 rate-setting-requires c κs = search needs

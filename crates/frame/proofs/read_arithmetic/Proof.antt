@@ -5,11 +5,11 @@ use Rattle.frame.proofs.read_arithmetic.Tie as tie
 use mathlib.Core.Path.{_≡_, refl, sym, ap, _∙_}
 use native.Mathlib.Omega.{arith}
 use denote.Ref.{now}
-use Rattle.frame.specs.Read.{value}
-use Rattle.frame.specs.Tns.{Filter, filterGiven}
+use Rattle.frame_bits.specs.Read.{value}
+use Rattle.frame_tns.specs.Tns.{Filter, filterGiven}
 use Rattle.frame.specs.Frame.{spectralGiven}
-use Rattle.frame.specs.declared.coder.Coder.{Coder}
-use Rattle.frame.specs.declared.tns.FilterRead.{FilterRead}
+use Rattle.frame_coder.specs.declared.Coder.{Coder}
+use Rattle.frame_tns.specs.declared.FilterRead.{FilterRead}
 use Rattle.frame.specs.declared.SpectralRead.{SpectralRead}
 use Rattle.frame.proofs.WholeFrame.{tns-tables, start-taken, firstAt, secondAt, first-at, second-at, arithmetic-value, answers-cause, answers-value}
 use Rattle.frame.proofs.WholeFrame.{first-refused, second-refused, third-refused}

@@ -4,7 +4,7 @@ use Rattle.frame.proofs.read_sized.Statement.{statement}
 use Rattle.frame.proofs.read_sized.Tie as tie
 use mathlib.Core.Path.{refl, sym, ap, _∙_}
 use denote.Ref.{now}
-use Rattle.frame.specs.Side.{sideGiven}
+use Rattle.frame_side.specs.Side.{sideGiven}
 use Rattle.frame.specs.Frame.{judgedRead}
 use Rattle.frame.proofs.WholeFrame.{answers-by, answers-length, answers-cause, judged-spectrum, judged-residual, judged-read, side-refused, frame-rest}
 

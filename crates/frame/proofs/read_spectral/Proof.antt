@@ -5,11 +5,11 @@ use Rattle.frame.proofs.read_spectral.Tie as tie
 use mathlib.Core.Path.{_≡_, refl, sym, ap, _∙_}
 use native.Mathlib.Omega.{arith}
 use denote.Ref.{now}
-use Rattle.frame.specs.Read.{Read, value}
-use Rattle.frame.specs.Pairs.{Streams, Spectrum, pairsGiven}
-use Rattle.frame.specs.Residual.{leftGiven}
-use Rattle.frame.specs.declared.pairs.PairsRead.{PairsRead}
-use Rattle.frame.specs.declared.residual.Left.{Left}
+use Rattle.frame_bits.specs.Read.{Read, value}
+use Rattle.frame_pairs.specs.Pairs.{Streams, Spectrum, pairsGiven}
+use Rattle.frame_residual.specs.Residual.{leftGiven}
+use Rattle.frame_pairs.specs.declared.PairsRead.{PairsRead}
+use Rattle.frame_residual.specs.declared.Left.{Left}
 use Rattle.frame.proofs.WholeFrame.{tables, lookups, roomy-zeros, pairsAt, pairs-at, pairs-refused, left-refused, spectral-value, spectral-is}
 
 -- the places that several needs look back to

@@ -4,8 +4,8 @@ use native.Mathlib.Omega.{arith}
 use lib.Seq.{length-take-le}
 use borrow.Author.Needs.{needs}
 use Rattle.list.proofs.main.Tie as tie
-use Rattle.record.proofs.Lines.{listed-most}
-use Rattle.record.specs.Listing.{listedAnswer}
+use Rattle.record_listing.proofs.Lines.{listed-most}
+use Rattle.record_listing.specs.Listing.{listedAnswer}
 use Rattle.list.proofs.main.Statement.{statement}
 
 slice-aggregate-read-all : tie.Need-slice-aggregate-read-all

@@ -9,13 +9,13 @@ use lib.ListN.{length, take}
 use lib.Seq.{length-take-le}
 use denote.Ref.{now}
 use borrow.Author.Needs.{needs}
-use Rattle.record.specs.declared.walk.Walked.the-variants as walked
+use Rattle.record_bytes.specs.declared.Walked.the-variants as walked
 use Rattle.record.proofs.add.Tie as tie
-use Rattle.record.specs.Layout.{RecordEntry}
-use Rattle.record.specs.Reading.{readRecord}
+use Rattle.record_bytes.specs.Layout.{RecordEntry}
+use Rattle.record_bytes.specs.Reading.{readRecord}
 use Rattle.record.specs.Answers.{mayAdd}
-use Rattle.record.specs.Steps.{walkOf, put}
-use Rattle.record.proofs.Numbers.{Bytes}
+use Rattle.record_bytes.specs.Steps.{walkOf, put}
+use Rattle.record_bytes.proofs.Numbers.{Bytes}
 use Rattle.record.proofs.Theorems.{add-stores}
 use Rattle.record.proofs.Answered.{Allowed, allowed, used-known, room-yes, room-buffer, room-most, add-bad, add-none, add-full, add-stored, length-tail}
 use Rattle.record.proofs.add.Statement.{statement}

@@ -3,9 +3,11 @@ use borrow.Author.Needs.{needs}
 use Rattle.slot.proofs.judge.Statement.{statement}
 use Rattle.slot.proofs.judge.Tie as tie
 use Rattle.slot.proofs.UnprotectSteps.{foreign-answer, accepted-answer, request-is, data-unmixed}
-use Rattle.slot.specs.Inner.{MendedTo, IsDelivered}
-use Rattle.slot.specs.Unprotect.{Taken, SomeBeyond}
-use Rattle.slot.specs.Sizes.{words}
+use Rattle.slot_repair.specs.Inner.{MendedTo}
+use Rattle.slot_delivery.specs.Inner.{IsDelivered}
+use Rattle.slot.specs.Unprotect.{Taken}
+use Rattle.slot_laws.specs.Corrected.{SomeBeyond}
+use Rattle.slot_laws.specs.Sizes.{words}
 use Prim.Native.Nat.{_*_, _-_}
 use native.Mathlib.Omega.{arith}
 use mathlib.Core.Bool.{true, false}

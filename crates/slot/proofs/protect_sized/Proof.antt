@@ -1,7 +1,7 @@
 -- `slot::protect_sized` meets its contract. Assumes nothing.
 use mathlib.Core.List.{_++_}
-use Rattle.slot.proofs.ProtectSteps.{blanks, info-long, info-is, slot-is}
-use Rattle.slot.proofs.Order.{data-of}
+use Rattle.slot_laws.proofs.ProtectSteps.{blanks, info-long, info-is, slot-is}
+use Rattle.slot_laws.proofs.Order.{data-of}
 use lib.Seq.{length-take-le, length-front}
 use lib.ListN.{drop}
 use native.Mathlib.Omega.{arith}

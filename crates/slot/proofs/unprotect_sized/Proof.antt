@@ -1,6 +1,6 @@
 -- `slot::unprotect_sized` meets its contract. Assumes nothing.
 use Rattle.slot.proofs.UnprotectSteps.{data-blank}
-use Rattle.slot.proofs.ProtectSteps.{blanks, info-long}
+use Rattle.slot_laws.proofs.ProtectSteps.{blanks, info-long}
 use lib.Seq.{length-take-le}
 use native.Mathlib.Omega.{arith}
 use Prim.Native.Nat.{_+_, _*_}

@@ -1,7 +1,7 @@
 -- `code_word::settings::fits` meets its contract. Assumes nothing.
 use native.Mathlib.Omega.{arith}
 use borrow.Author.Needs.{needs}
-use Rattle.code_word.proofs.Tests.{fits-not, fits-checked}
+use Rattle.code_word_laws.proofs.Tests.{fits-not, fits-checked}
 use Rattle.code_word.proofs.settings.fits.Statement.{statement}
 use Rattle.code_word.proofs.settings.fits.Tie as tie
 

@@ -1,6 +1,6 @@
 -- `code_word::settings::fits_longer` meets its contract. Assumes nothing.
 use borrow.Author.Needs.{needs}
-use Rattle.code_word.proofs.Tests.{longer-none, longer-some}
+use Rattle.code_word_laws.proofs.Tests.{longer-none, longer-some}
 use Rattle.code_word.proofs.settings.fits_longer.Statement.{statement}
 use Rattle.code_word.proofs.settings.fits_longer.Tie as tie
 

@@ -4,8 +4,8 @@ use native.Mathlib.Omega.{arith}
 use lib.ListN.{length}
 use denote.Ref.{now}
 use borrow.Author.Needs.{needs}
-use Rattle.frame.specs.Settings.{lineCount}
-use Rattle.record.proofs.Numbers.{Bytes}
+use Rattle.frame_settings.specs.Settings.{lineCount}
+use Rattle.record_bytes.proofs.Numbers.{Bytes}
 use Rattle.silberlaus.proofs.frames.silberlaus_read_entry.Statement.{statement}
 use Rattle.silberlaus.proofs.frames.silberlaus_read_entry.Tie as tie
 use Rattle.silberlaus.proofs.Entry.{refusal, reading, no-rate, other-spectrum, other-residual, no-frame, part-read}

@@ -1,0 +1,161 @@
+// How one word is corrected. Its values at 2^0 .. 2^14 are read from a lent table and added up, packed in one number (the spectrum); the values at
+// 2^1 .. 2^(2 t) are those of its errors alone (the syndromes), and a word in which they are 0 is left at once. Where they are those of one error, it is
+// taken off. From the others comes a rule by which the sums of at most t errors go on, and from fifteen sums the errors themselves. The word with them
+// taken off is tested, and put back where it is not valid.
+ghost use mathlib.Core.Path.{_≡_};
+ghost use mathlib.Core.Logic.{_≢_};
+ghost use Prim.Native.Nat.{_+_, _^_, _≤_, _<_};
+ghost use lib.Dec.{ltb};
+ghost use lib.ListN.{length};
+ghost use Rattle.laws.specs.Decides.{Decides};
+ghost use Rattle.laws.specs.Tab.{pick};
+ghost use Rattle.gf16.specs.Field.{product, power, inverse};
+ghost use Rattle.code_word_laws.specs.Word.{SemiOctets, apart};
+ghost use Rattle.code_word_laws.specs.Correct.{Mended, EachMended};
+ghost use Rattle.code_word_laws.specs.Packed.{nibble};
+ghost use Rattle.code_word_laws.specs.Corrector.{Table, Row, Spectrum, Clear, Flat, Thin, Rules, Transformed, Guessed, Acceptable, Dealt, Tried, mended, cross, triple, minor};
+use code_word_locator::clear;
+use code_word_locator::inverted;
+use code_word_locator::logarithm;
+use code_word_locator::row;
+use code_word_locator::ruled;
+use code_word_locator::spectrum;
+use code_word_locator::times;
+use code_word_locator::tripled;
+
+// The errors, packed: fifteen sums by the rule, each transformed back as it is made.
+fn errors(t: &[u32; 512], r1: u8, r2: u8, r3: u8, s1: u8, s2: u8, u: u8) -> u64
+    requires { ⌜ Table (now t) × (r1 < 16) × (r2 < 16) × (r3 < 16) × (s1 < 16) × (s2 < 16) × (u < 16) ⌝ }
+    ensures { λ e. ⌜ Transformed r1 r2 r3 s1 s2 u e ⌝ }
+{
+    let mut e = (row(t, 14, s1) ^ row(t, 13, s2)) ^ row(t, 12, u);
+    let mut a = u;
+    let mut b = s2;
+    let mut c = s1;
+    let mut n: usize = 12;
+    while 0 < n {
+        let x = tripled(t, r2, b, r3, c, r1, a);
+        e = e ^ row(t, n - 1, x);
+        c = b;
+        b = a;
+        a = x;
+        n = n - 1;
+    }
+    e
+}
+
+// The errors that explain the syndromes, if at most t do.
+fn guess(t: &[u32; 512], s: u64, most: u8) -> u64
+    requires { ⌜ Table (now t) × (1 ≤ most) × (most ≤ 3) ⌝ }
+    ensures { λ e. ⌜ Guessed most s e ⌝ }
+{
+    let r = ruled(t, s, most);
+    let s1 = (s / 16 % 16) as u8;
+    let s2 = (s / 16 / 16 % 16) as u8;
+    errors(t, r.0, r.1, r.2, s1, s2, r.3)
+}
+
+// Takes the errors off, and counts them.
+fn take_off(word: &mut [u8], e: u64) -> u8
+    requires { ⌜ length (now word) ≤ 15 ⌝ }
+    ensures { λ r. ⌜ (now (word .exit) ≡ mended (now (word .entry)) e) × (r ≡ apart (now (word .entry)) (now (word .exit))) ⌝ }
+{
+    let mut rest = e;
+    let mut count: u8 = 0;
+    let mut i = 0;
+    while i < word.len() {
+        let digit = (rest % 16) as u8;
+        word[i] = word[i] ^ digit;
+        count = count + (digit + 15) / 16;
+        rest = rest / 16;
+        i += 1;
+    }
+    count
+}
+
+// Whether the word, with so many changes, is valid and near enough.
+fn accepted(t: &[u32; 512], word: &[u8], most: u8, count: u8) -> bool
+    requires { ⌜ Table (now t) × (1 ≤ most) × (most ≤ 3) × (length (now word) ≤ 15) × SemiOctets (now word) ⌝ }
+    ensures { λ r. ⌜ Decides (Acceptable most count (now (word .entry))) r ⌝ }
+{
+    if most < count {
+        return false;
+    }
+    clear(spectrum(t, word), most)
+}
+
+// Takes one error off, where the syndromes are those of one: its value times its place is s1, and times its place again s2.
+fn mend_one(t: &[u32; 512], word: &mut [u8], s: u64, most: u8) -> bool
+    requires { ⌜ Table (now t) × (1 ≤ most) × (most ≤ 3) × (length (now word) ≤ 15) × SemiOctets (now word) × Spectrum (now word) s ⌝ }
+    ensures { λ r. ⌜ Tried (most + 1) (now (word .entry)) (now (word .exit)) r ⌝ }
+{
+    let s1 = (s / 16 % 16) as u8;
+    let s2 = (s / 16 / 16 % 16) as u8;
+    let v = times(t, inverted(s2), times(t, s1, s1));
+    if v == 0 {
+        return false;
+    }
+    let k = logarithm(times(t, inverted(s1), s2));
+    if word.len() <= k {
+        return false;
+    }
+    if clear(s ^ row(t, k, v), most) {
+        word[k] = word[k] ^ v;
+        return true;
+    }
+    false
+}
+
+// Corrects one word with a lent table: the count of changed semi-octets, or t + 1 where no valid word is near, and then the word is as it was lent.
+pub fn mend(t: &[u32; 512], word: &mut [u8], most: u8) -> u8
+    requires { ⌜ Table (now t) × (1 ≤ most) × (most ≤ 3) × (length (now word) ≤ 15) × SemiOctets (now word) ⌝ }
+    ensures { λ r. ⌜ Mended (most + 1) (now (word .entry)) (now (word .exit)) r ⌝ }
+{
+    let s = spectrum(t, word);
+    if clear(s, most) {
+        return 0;
+    }
+    if mend_one(t, word, s, most) {
+        return 1;
+    }
+    let e = guess(t, s, most);
+    let count = take_off(word, e);
+    if accepted(t, word, most, count) {
+        return count;
+    }
+    take_off(word, e);
+    most + 1
+}
+
+// The length of word i: one more for the words that come first.
+fn dealt(long: usize, over: usize, i: usize) -> usize
+    requires { ⌜ long ≤ 15 ⌝ }
+    ensures { λ r. ⌜ r ≡ pick (ltb i over) (long + 1) long ⌝ }
+{
+    if i < over {
+        return long + 1;
+    }
+    long
+}
+
+// Corrects each word with a lent table, and leaves its count, or t + 1 where it has none.
+pub fn mend_each(
+    t: &[u32; 512],
+    words: &mut [u8],
+    long: usize,
+    over: usize,
+    most: u8,
+    counts: &mut [u8],
+)
+    requires { ⌜ Table (now t) × (1 ≤ most) × (most ≤ 3) × Dealt (length (now words)) (length (now counts)) long over × SemiOctets (now words) ⌝ }
+    ensures { λ r. ⌜ EachMended (most + 1) (now (words .entry)) (now (words .exit)) (now (counts .exit)) ⌝ }
+{
+    let mut at = 0;
+    let mut i = 0;
+    while i < counts.len() {
+        let end = at + dealt(long, over, i);
+        counts[i] = mend(t, &mut words[at..end], most);
+        at = end;
+        i += 1;
+    }
+}

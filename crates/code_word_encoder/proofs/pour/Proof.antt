@@ -1,0 +1,61 @@
+-- `code_word::encoder::pour` meets its contract: what is still to be poured in front of what stands gives the result. Assumes nothing.
+use mathlib.Core.Path.{_≡_}
+use Prim.Native.Nat.{_≤_}
+use native.Mathlib.Omega.{arith}
+use lib.ListN.{length, drop}
+use borrow.Author.Needs.{needs}
+use Rattle.code_word_laws.specs.Register.{register, poured}
+use Rattle.code_word_laws.proofs.Encoding as encoding
+use Rattle.code_word_encoder.proofs.pour.Statement.{statement}
+use Rattle.code_word_encoder.proofs.pour.Tie as tie
+
+abbrev Inv-loop : tie.InvT-loop
+Inv-loop word₀ n register r₀ k₀ word r k =
+    (k ≤ length word₀) × (length word ≡ length word₀) × (poured k r (drop k word) ≡ poured n register (drop n word₀))
+
+abbrev μ-loop : tie.MeasureT-loop
+μ-loop word₀ n register r₀ k₀ word r k = k
+
+loop-holds : tie.Need-loop-holds Inv-loop μ-loop
+loop-holds c = search needs
+
+sub-k : tie.Need-sub-k Inv-loop μ-loop
+sub-k c = search needs
+
+cast-word : tie.Need-cast-word Inv-loop μ-loop
+cast-word c = search needs
+
+slice-write-word : tie.Need-slice-write-word Inv-loop μ-loop
+slice-write-word c = search needs
+
+loop-less : tie.Need-loop-less Inv-loop μ-loop
+loop-less c = search needs
+
+loop-again : tie.Need-loop-again Inv-loop μ-loop
+loop-again c =
+    let l = c .before .loop in
+    (search needs, search needs, encoding.pour-next (l .k) (l .r) (l .word) _ (omega arith) (omega arith) (l .inv .2))
+
+same-length : tie.Need-same-length Inv-loop μ-loop
+same-length c = search needs
+
+returns : tie.Need-returns Inv-loop μ-loop
+returns c =
+    let l = c .before .loop in
+    let e : l .k ≡ 0 = omega arith in
+    encoding.pour-last (l .k) (l .r) (l .word) _ e (l .inv .2)
+
+pub pour-spec : {M : Type 1} → statement M
+pour-spec =
+    tie.close
+    (tie.spec
+    Inv-loop
+    μ-loop
+    loop-holds
+    sub-k
+    cast-word
+    slice-write-word
+    loop-less
+    loop-again
+    same-length
+    returns)

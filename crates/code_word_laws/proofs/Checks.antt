@@ -1,0 +1,133 @@
+-- The sum of what each data semi-octet adds is what the whole data leave: its digits in front of the data are the code word. Over the degree n and the
+-- number of data; a table's entry is what one semi-octet alone leaves.
+-- Assumes nothing.
+use mathlib.Core.Path.{_≡_, refl, sym, ap, ap₂, _∙_}
+use mathlib.Core.List.{List, [], _∷_, _++_}
+use Prim.Native.Nat.{ℕ, zero, suc, _+_, _-_, _*_, _/_, _%_, _≤_, _<_}
+use native.Mathlib.Omega.{arith}
+use native.Mathlib.Nat.{add-zero, mod-eq-of-lt}
+use native.Mathlib.Numerals.{add-one}
+use lib.Bits.{bitXor}
+use lib.ListN.{length, getD, take, drop}
+use lib.Seq.{take-length, drop-cons}
+use borrow.Author.Tests.{lt-ltb}
+use Rattle.laws.specs.Tab.{pick}
+use Rattle.laws.proofs.Tab.{getD-tab}
+use Rattle.gf16.specs.Field.{sum, product, power}
+use Rattle.gf16.proofs.Laws.{ring2, zero-sum, product-sum, product-by-zero}
+use Rattle.code_word_laws.specs.Polynomial.{value, rooted}
+use Rattle.code_word_laws.specs.Word.{SemiOctets}
+use Rattle.code_word_laws.specs.Make.{coded}
+use Rattle.code_word_laws.specs.Register.{feedback, register, poured}
+use Rattle.code_word_laws.specs.Checks.{alone, checkRows, withData, summed}
+use Rattle.code_word_laws.proofs.Division.{rooted-root, semi-octet-at}
+use Rattle.code_word_laws.proofs.Register.{held, held-xor, held-nothing, register-held, Leaves, leaves-codes, poured-holds, poured-length}
+use Rattle.code_word_laws.proofs.Coded.{coded-only}
+
+-- ---- one semi-octet alone
+
+alone-semi-octets : (k c : ℕ) → c < 16 → SemiOctets (alone k c)
+unfolding alone
+alone-semi-octets zero c h = (h, tt)
+alone-semi-octets (suc k) c h = (omega arith, alone-semi-octets k c h)
+
+row-at : (n k c : ℕ) → k < 13 → getD (checkRows n) (16 * k + c % 16) 0 ≡ register (feedback n) (alone k (c % 16))
+unfolding checkRows
+row-at n k c h =
+    let q : (16 * k + c % 16) / 16 ≡ k = omega arith in
+    let r : (16 * k + c % 16) % 16 ≡ c % 16 = omega arith in
+    getD-tab (λ i. register (feedback n) (alone (i / 16) (i % 16))) 208 (16 * k + c % 16) (omega arith)
+    ∙ ap₂ (λ (a b : ℕ). register (feedback n) (alone a b)) q r
+
+more-step : (c x a b : ℕ) → sum c (product x (sum a b)) ≡ sum (sum c (product x a)) (sum 0 (product x b))
+more-step c x a b = simp ring2
+
+-- the value of the data with one semi-octet more
+value-more : (info : List ℕ) (m x : ℕ) → m < length info → value (take (suc m) info) x ≡ sum (value (take m info) x) (value (alone m (getD info m 0)) x)
+unfolding alone
+value-more [] m x h = absurd (omega arith)
+value-more (c ∷ cs) zero x h = sym (zero-sum (sum c (product x 0)))
+value-more (c ∷ cs) (suc m) x h =
+    ap (λ (v : ℕ). sum c (product x v)) (value-more cs m x (omega arith))
+    ∙ more-step c x (value (take m cs) x) (value (alone m (getD cs m 0)) x)
+
+-- ---- the sum
+
+summed-more : (rows : List ℕ) (f : ℕ → ℕ) (m : ℕ) → m < 13 → summed rows f (suc m) ≡ bitXor (summed rows f m) (getD rows (16 * m + f m % 16) 0)
+unfolding summed withData
+summed-more rows f m h = ap (λ b. pick b (bitXor (summed rows f m) (getD rows (16 * m + f m % 16) 0)) (summed rows f m)) (lt-ltb m 13 h)
+
+summed-held : (n m : ℕ) (info : List ℕ) (x : ℕ) → m ≤ length info → length info ≤ 13 → SemiOctets info → value (rooted (suc n)) x ≡ 0
+    → held (suc n) (summed (checkRows (suc n)) (λ k. getD info k 0) m) x ≡ product (power x (suc n)) (value (take m info) x)
+unfolding summed
+summed-held n zero info x h l s z = held-nothing (suc n) x ∙ sym (product-by-zero (power x (suc n)))
+summed-held n (suc m) info x h l s z =
+    let rows = checkRows (suc n) in
+    let f : ℕ → ℕ = λ k. getD info k 0 in
+    let p = power x (suc n) in
+    let c = getD info m 0 in
+    let b : c < 16 = semi-octet-at info m s in
+    let e : c % 16 ≡ c = mod-eq-of-lt b in
+    let one : held (suc n) (getD rows (16 * m + c % 16) 0) x ≡ product p (value (alone m c) x) =
+    ap (λ (v : ℕ). held (suc n) v x) (row-at (suc n) m c (omega arith))
+    ∙ register-held n (alone m (c % 16)) x (alone-semi-octets m (c % 16) (omega arith)) z
+    ∙ ap (λ (v : ℕ). product p (value (alone m v) x)) e in
+    ap (λ (v : ℕ). held (suc n) v x) (summed-more rows f m (omega arith))
+    ∙ held-xor (suc n) (summed rows f m) (getD rows (16 * m + c % 16) 0) x
+    ∙ ap₂ sum (summed-held n m info x (omega arith) l s z) one
+    ∙ sym (product-sum p (value (take m info) x) (value (alone m c) x))
+    ∙ ap (product p) (sym (value-more info m x (omega arith)))
+
+summed-leaves : (n : ℕ) (info : List ℕ) → length info ≤ 13 → SemiOctets info
+    → Leaves n info (summed (checkRows n) (λ k. getD info k 0) (length info))
+summed-leaves zero info l s j p h = absurd (omega arith)
+summed-leaves (suc n) info l s j p h =
+    summed-held n (length info) info (power 2 j) (omega arith) l s (rooted-root (suc n) j p h)
+    ∙ ap (λ (w : List ℕ). product (power (power 2 j) (suc n)) (value w (power 2 j))) (take-length info)
+
+-- the digits of the sum, in front of the data, are the code word over them
+pub summed-coded : (d : ℕ) (info : List ℕ) → 3 ≤ d → d - 1 + length info ≤ 15 → SemiOctets info
+    → poured (d - 1) (summed (checkRows (d - 1)) (λ k. getD info k 0) (length info)) info ≡ coded d info
+summed-coded d info a l s =
+    let r = summed (checkRows (d - 1)) (λ k. getD info k 0) (length info) in
+    coded-only d info (poured (d - 1) r info) (omega arith) l s
+    (leaves-codes d r info (omega arith) (omega arith) s (summed-leaves (d - 1) info (omega arith) s))
+
+-- ---- the sum as a loop makes it
+
+pub summed-none : (rows : List ℕ) (f : ℕ → ℕ) → 0 ≡ summed rows f 0
+unfolding summed
+summed-none rows f = refl
+
+pub summed-next : (rows : List ℕ) (f : ℕ → ℕ) (k c r s : ℕ) → c ≡ f k → r ≡ summed rows f k → s ≡ withData rows k c r → s ≡ summed rows f (k + 1)
+unfolding summed
+summed-next rows f k c r s e h t = t ∙ ap₂ (withData rows k) e h ∙ ap (summed rows f) (sym (add-one k))
+
+-- ---- the digits one by one
+
+pub digits-length : (n r : ℕ) → length (poured n r []) ≡ n
+digits-length n r = poured-length n r [] ∙ add-zero n
+
+pub digits-start : (n r : ℕ) → poured n r (drop n (poured n r [])) ≡ poured n r []
+digits-start n r = ap (λ (l : List ℕ). poured n r l) (poured-holds n r [])
+
+pub poured-append : (n r : ℕ) (xs ys : List ℕ) → poured n r (xs ++ ys) ≡ poured n r xs ++ ys
+unfolding poured
+poured-append zero r xs ys = refl
+poured-append (suc n) r xs ys = poured-append n (r / 16) (r % 16 ∷ xs) ys
+
+same-head : (x y : ℕ) (xs ys : List ℕ) → x ∷ xs ≡ y ∷ ys → x ≡ y
+same-head x y xs ys e = ap (λ (l : List ℕ). getD l 0 0) e
+
+-- the lowest digit is the last that is still to be poured
+pub poured-turn : (k r : ℕ) (w : List ℕ) → 0 < k → k ≤ length w → poured k r (drop k w) ≡ w
+    → (r % 16 ≡ getD w (k - 1) 0) × (poured (k - 1) (r / 16) (drop (k - 1) w) ≡ w)
+unfolding poured
+poured-turn zero r w p h e = absurd (omega arith)
+poured-turn (suc k) r w p h e =
+    let same : suc k - 1 ≡ k = omega arith in
+    let t : r % 16 ∷ drop (suc k) w ≡ drop k w = sym (poured-holds k (r / 16) (r % 16 ∷ drop (suc k) w)) ∙ ap (drop k) e in
+    rw same (
+      same-head (r % 16) (getD w k 0) (drop (suc k) w) (drop (suc k) w) (t ∙ drop-cons w k 0 (omega arith)),
+      ap (λ (l : List ℕ). poured k (r / 16) l) (sym t) ∙ e,
+    )

@@ -1,0 +1,75 @@
+-- The code word over the data, by division, is a code word, and the only one of its length over these data.
+-- It rests on the division of Division.antt, and on the distance: two words over the same data differ in the d - 1 check semi-octets at most.
+-- Assumes nothing.
+use mathlib.Core.Path.{_≡_, refl, sym, ap, _∙_}
+use mathlib.Core.Bool.{true}
+use mathlib.Core.List.{List, [], _∷_, _++_}
+use Prim.Native.Nat.{ℕ, zero, suc, _+_, _-_, _≤_}
+use native.Mathlib.Omega.{arith}
+use lib.Dec.{eqb}
+use lib.ListN.{length, getD, drop, replicate, length-append}
+use lib.Seq.{drop-at}
+use borrow.Author.Tests.{eq-eqb}
+use Rattle.gf16.specs.Field.{sum}
+use Rattle.gf16.proofs.Laws.{ring2, sum-zero, zero-sum}
+use Rattle.code_word_laws.specs.Polynomial.{multiplied, rooted, generator}
+use Rattle.code_word_laws.specs.Word.{SemiOctets, apart}
+use Rattle.code_word_laws.specs.Make.{remainder, coded, CodeWord}
+use Rattle.code_word_laws.proofs.Distance.{unequal-le}
+use Rattle.code_word_laws.proofs.Division.{unique, divided, quotient-by, rooted-monic, remainder-length, remainder-semi-octets, zeros-semi-octets}
+
+pub append-semi-octets : (xs ys : List ℕ) → SemiOctets xs → SemiOctets ys → SemiOctets (xs ++ ys)
+append-semi-octets [] ys s t = t
+append-semi-octets (x ∷ xs) ys s t = (s .0, append-semi-octets xs ys (s .1) t)
+
+-- what stands in front of the data is added at powers where the shifted data have none
+front : (n : ℕ) (rs info : List ℕ) (k : ℕ) → length rs ≡ n → getD (rs ++ info) k 0 ≡ sum (getD (replicate n 0 ++ info) k 0) (getD rs k 0)
+front zero [] info k e = sym (sum-zero (getD info k 0))
+front zero (r ∷ rs) info k e = absurd (omega arith)
+front (suc n) [] info k e = absurd (omega arith)
+front (suc n) (r ∷ rs) info zero e = sym (zero-sum r)
+front (suc n) (r ∷ rs) info (suc k) e = front n rs info k (omega arith)
+
+twice : (a b : ℕ) → sum (sum a b) b ≡ a
+twice a b = simp ring2
+
+pub coded-is : (d : ℕ) (info : List ℕ) → SemiOctets info → CodeWord d info (coded d info)
+unfolding coded generator
+coded-is d info s =
+    let n = d - 1 in
+    let g = rooted n in
+    let z = replicate n 0 ++ info in
+    let t = append-semi-octets (replicate n 0) info (zeros-semi-octets n) s in
+    let l = remainder-length n g z in
+    record {
+      semi-octets = append-semi-octets (remainder n g z) info (remainder-semi-octets n g z t) s;
+      long = length-append (remainder n g z) info ∙ ap (λ (k : ℕ). k + length info) l;
+      holds = drop-at (remainder n g z) info n l;
+      valid = record {
+        quotient = quotient-by n g z;
+        same = λ k.
+            sym (twice (getD (multiplied (quotient-by n g z) g) k 0) (getD (remainder n g z) k 0))
+            ∙ ap (λ (v : ℕ). sum v (getD (remainder n g z) k 0)) (divided n g z (rooted-monic n) t k)
+            ∙ sym (front n (remainder n g z) info k l);
+      };
+    }
+
+apart-self : (xs : List ℕ) → apart xs xs ≡ 0
+apart-self [] = refl
+apart-self (x ∷ xs) = let e : eqb x x ≡ true = eq-eqb x x refl in let r = apart-self xs in rw e (omega arith)
+
+-- words with the same data differ in front of them at most
+pub apart-front : (n : ℕ) (xs ys : List ℕ) → drop n xs ≡ drop n ys → apart xs ys ≤ n
+apart-front zero xs ys e = let h : apart xs ys ≡ 0 = ap (λ (l : List ℕ). apart l ys) e ∙ apart-self ys in omega arith
+apart-front (suc n) [] ys e = omega arith
+apart-front (suc n) (x ∷ xs) [] e = omega arith
+apart-front (suc n) (x ∷ xs) (y ∷ ys) e = let r = apart-front n xs ys e in let u = unequal-le (eqb x y) in omega arith
+
+-- two code words over the same data
+pub code-word-only : (d : ℕ) (info v w : List ℕ) → 2 ≤ d → d - 1 + length info ≤ 15 → CodeWord d info v → CodeWord d info w → v ≡ w
+code-word-only d info v w a l p q =
+    let f = apart-front (d - 1) v w (p .holds ∙ sym (q .holds)) in
+    unique d v w (p .long ∙ sym (q .long)) (omega (arith, p .long)) (p .semi-octets) (q .semi-octets) (p .valid) (q .valid) (omega arith)
+
+pub coded-only : (d : ℕ) (info w : List ℕ) → 2 ≤ d → d - 1 + length info ≤ 15 → SemiOctets info → CodeWord d info w → w ≡ coded d info
+coded-only d info w a l s p = code-word-only d info w (coded d info) a l p (coded-is d info s)

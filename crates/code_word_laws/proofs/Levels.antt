@@ -1,0 +1,120 @@
+-- The ends of the rule functions: from what their calls answered to the rule, at each level.
+-- Assumes nothing.
+use mathlib.Core.Path.{_≡_, refl, sym, ap, ap₂, _∙_}
+use mathlib.Core.Bool.{Bool}
+use mathlib.Core.Logic.{_≢_}
+use mathlib.Core.List.{List, [], _∷_}
+use Prim.Native.Nat.{ℕ, zero, suc, _+_, _/_, _≤_, _<_}
+use native.Mathlib.Omega.{arith}
+use lib.Dec.{T, eqb, eqb→eq}
+use lib.ListN.{getD}
+use Rattle.laws.proofs.Every.{at}
+use Rattle.gf16.specs.Field.{sum, product, power, inverse, expanded, lowered, reduced}
+use Rattle.gf16.proofs.Laws.{product-lt, inverse-lt}
+use Rattle.code_word_laws.specs.Packed.{nibble}
+use Rattle.code_word_laws.specs.Corrector.{Flat, Thin, Rules, Ruled, cross, triple, minor}
+use Rattle.code_word_laws.proofs.Packed.{nibble-lt}
+use Rattle.code_word_laws.proofs.Rule.{minor0, minor1, minor2, ruled-three, ruled-two, ruled-one}
+use Rattle.code_word_laws.proofs.Mend.{ruled-by}
+
+-- the list of the inverses
+unfoldable pub inverses : List ℕ
+inverses = 0 ∷ 1 ∷ 9 ∷ 14 ∷ 13 ∷ 11 ∷ 7 ∷ 6 ∷ 15 ∷ 2 ∷ 12 ∷ 5 ∷ 10 ∷ 4 ∷ 3 ∷ 8 ∷ []
+
+inverses-test : ℕ → Bool
+inverses-test a = eqb (getD inverses a 0) (inverse a)
+
+pub inverses-at : (a : ℕ) → a < 16 → getD inverses a 0 ≡ inverse a
+unfolding inverses inverses-test inverse power product reduced lowered expanded
+inverses-at a h = eqb→eq (getD inverses a 0) (inverse a) (at 16 inverses-test tt a h)
+
+-- the list of the logarithms
+unfoldable pub logarithms : List ℕ
+logarithms = 0 ∷ 0 ∷ 1 ∷ 4 ∷ 2 ∷ 8 ∷ 5 ∷ 10 ∷ 3 ∷ 14 ∷ 9 ∷ 7 ∷ 6 ∷ 13 ∷ 11 ∷ 12 ∷ []
+
+logarithms-test : ℕ → Bool
+logarithms-test a = eqb (power 2 (getD logarithms (suc a) 0)) (suc a)
+
+pub logarithms-at : (a : ℕ) → a < 16 → a ≢ 0 → power 2 (getD logarithms a 0) ≡ a
+unfolding logarithms logarithms-test power product reduced lowered expanded
+logarithms-at zero h n = absurd (n refl)
+logarithms-at (suc a) h n = eqb→eq (power 2 (getD logarithms (suc a) 0)) (suc a) (at 15 logarithms-test tt a (omega arith))
+
+places-test : ℕ → Bool
+places-test a = eqb (getD logarithms a 0 / 15) 0
+
+pub logarithms-lt : (a : ℕ) → a < 16 → getD logarithms a 0 < 15
+unfolding logarithms places-test
+logarithms-lt a h = let e = eqb→eq (getD logarithms a 0 / 15) 0 (at 16 places-test tt a h) in omega arith
+
+below : (i a x : ℕ) → x ≡ product i a → x < 16
+below i a x e = rw e (product-lt i a)
+
+module _ (s : ℕ) where
+  abbrev n1 : ℕ
+  n1 = nibble 1 s
+
+  abbrev n2 : ℕ
+  n2 = nibble 2 s
+
+  abbrev n3 : ℕ
+  n3 = nibble 3 s
+
+  abbrev n4 : ℕ
+  n4 = nibble 4 s
+
+  abbrev n5 : ℕ
+  n5 = nibble 5 s
+
+  abbrev n6 : ℕ
+  n6 = nibble 6 s
+
+  pub rule-three-done : {d m01 m02 m03 m12 m13 m23 a b c i x y z : ℕ}
+      → d ≢ 0 → d ≡ minor n1 n2 n3 n4 n5
+      → m01 ≡ cross n1 n2 n2 n3 → m02 ≡ cross n1 n3 n2 n4 → m03 ≡ cross n1 n4 n2 n5
+      → m12 ≡ cross n2 n3 n3 n4 → m13 ≡ cross n2 n4 n3 n5 → m23 ≡ cross n3 n4 n4 n5
+      → a ≡ triple m13 n3 m03 n4 m01 n6 → b ≡ triple m23 n3 m03 n5 m02 n6 → c ≡ triple m23 n4 m13 n5 m12 n6
+      → i ≡ inverse d → x ≡ product i a → y ≡ product i b → z ≡ product i c → Rules 3 s x y z n3
+  rule-three-done {d} {a = a} {b = b} {c = c} {i = i} {x = x} {y = y} {z = z} nz e01d e01 e02 e03 e12 e13 e23 ea eb ec ei ex ey ez =
+      let fx : x ≡ product (inverse (minor n1 n2 n3 n4 n5)) (minor2 n1 n2 n3 n4 n5 n6) = cc in
+      let fy : y ≡ product (inverse (minor n1 n2 n3 n4 n5)) (minor1 n1 n2 n3 n4 n5 n6) = cc in
+      let fz : z ≡ product (inverse (minor n1 n2 n3 n4 n5)) (minor0 n1 n2 n3 n4 n5 n6) = cc in
+      record {
+        first = below i a x ex;
+        second = below i b y ey;
+        third = below i c z ez;
+        start = nibble-lt 3 s;
+        ruled = rw (fx, fy, fz) (ruled-by 3 s _ _ _ _ (omega arith) (ruled-three n1 n2 n3 n4 n5 n6 (λ q. nz (e01d ∙ q))));
+      }
+
+  pub rule-two-done : {t d a b i x y : ℕ} → 2 ≤ t → t ≤ 3 → d ≢ 0 → d ≡ cross n1 n2 n2 n3 → Flat t s
+      → a ≡ cross n1 n3 n2 n4 → b ≡ cross n2 n3 n3 n4 → i ≡ inverse d → x ≡ product i a → y ≡ product i b → Rules t s x y 0 n3
+  rule-two-done {t} {d} {a} {b} {i} {x} {y} from to nz ed flat ea eb ei ex ey =
+      let fx : x ≡ product (inverse (cross n1 n2 n2 n3)) (cross n1 n3 n2 n4) = cc in
+      let fy : y ≡ product (inverse (cross n1 n2 n2 n3)) (cross n2 n3 n3 n4) = cc in
+      record {
+        first = below i a x ex;
+        second = below i b y ey;
+        third = omega arith;
+        start = nibble-lt 3 s;
+        ruled = rw (fx, fy) (ruled-by t s _ _ _ _ to (ruled-two n1 n2 n3 n4 n5 n6 t from to (λ q. nz (ed ∙ q)) flat));
+      }
+
+  pub rule-one-done : {t i x u : ℕ} → 1 ≤ t → t ≤ 3 → Flat t s → Thin t s → i ≡ inverse n1 → x ≡ product i n2
+      → u < 16 → (t ≡ 1 → u ≡ product x n2) → (2 ≤ t → u ≡ n3) → Rules t s x 0 0 u
+  rule-one-done {t} {i} {x} {u} from to flat thin ei ex l one more =
+      let fx : x ≡ product (inverse n1) n2 = cc in
+      record {
+        first = below i n2 x ex;
+        second = omega arith;
+        third = omega arith;
+        start = l;
+        ruled =
+            rw fx
+            (ruled-by t s _ _ _ _ to
+            (ruled-one n1 n2 n3 n4 n5 n6 t u from to (nibble-lt 1 s) thin flat (λ q. one q ∙ ap (λ (v : ℕ). product v n2) fx) more));
+      }
+
+  pub minor-done : {m01 m02 m12 d : ℕ} → m01 ≡ cross n1 n2 n2 n3 → m02 ≡ cross n1 n3 n2 n4 → m12 ≡ cross n2 n3 n3 n4
+      → d ≡ triple m12 n3 m02 n4 m01 n5 → d ≡ minor n1 n2 n3 n4 n5
+  minor-done e01 e02 e12 e = cc

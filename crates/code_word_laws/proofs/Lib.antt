@@ -1,0 +1,19 @@
+-- Laws.
+pub mod Batch
+pub mod Checks
+pub mod Coded
+pub mod Distance
+pub mod Division
+pub mod Encoding
+pub mod Levels
+pub mod Mend
+pub mod Packed
+pub mod Places
+pub mod Promises
+pub mod Register
+pub mod Rule
+pub mod Single
+pub mod Table
+pub mod Tests
+pub mod Transform
+pub mod Turns

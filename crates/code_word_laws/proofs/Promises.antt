@@ -1,0 +1,123 @@
+-- The answers of the public functions, from what their tests and steps told: one law an answer, over plain lists.
+-- Assumes nothing.
+use mathlib.Core.Path.{_≡_, refl, subst}
+use mathlib.Core.Bool.{Bool, true, false, not}
+use mathlib.Core.List.{List}
+use Prim.Native.Nat.{ℕ, _+_, _-_, _/_, _%_, _≤_, _<_}
+use native.Mathlib.Omega.{arith}
+use native.Mathlib.Nat.{mod-lt}
+use lib.Dec.{ltb}
+use lib.ListN.{length}
+use borrow.Author.Tests.{not-true, not-false, lt-ltb, le-ltb, ltb-true}
+use Rattle.laws.specs.Decides.{Decides}
+use Rattle.laws.specs.Tab.{pick}
+use Rattle.code_word_laws.specs.Word.{SemiOctets, Fits}
+use Rattle.code_word_laws.specs.Make.{NotMade}
+use Rattle.code_word_laws.specs.Correct.{Mended, IsCorrected, IsNone, NotCorrected, lengthAt, Batch, EachMended, AllCorrected, NoneCorrected}
+use Rattle.code_word_laws.specs.Corrector.{Dealt}
+
+-- what a test tells, where its answer was turned round
+pub told-no : (P : Type 0) (r : Bool) → Decides P r → not r ≡ true → P → ⊥
+told-no P r d e = d .fails (not-true r e)
+
+pub told-yes : (P : Type 0) (r : Bool) → Decides P r → not r ≡ false → P
+told-yes P r d e = d .holds (not-false r e)
+
+-- ---- making a word
+
+pub not-made-fitting : (mode : ℕ) (old : List ℕ) → (Fits mode (length old) → ⊥) → NotMade mode old old
+not-made-fitting mode old no-fit = record { unfit = λ m. no-fit (m .fits); kept = refl }
+
+-- ---- correcting a word
+
+pub not-corrected-fitting : (mode : ℕ) (old : List ℕ) → (Fits mode (length old) → ⊥) → NotCorrected mode old old 0
+not-corrected-fitting mode old no-fit = record { unfit = λ q. no-fit (q .fits); kept = refl; zeroed = refl }
+
+pub not-corrected-elements : (mode : ℕ) (old : List ℕ) → (SemiOctets old → ⊥) → NotCorrected mode old old 0
+not-corrected-elements mode old not-semi = record { unfit = λ q. not-semi (q .semi-octets); kept = refl; zeroed = refl }
+
+module _ (mode : ℕ) (old new : List ℕ) (n : ℕ) (fits : Fits mode (length old)) (semi : SemiOctets old) (mended : Mended (mode - 1 + 1) old new n) where
+  same : mode - 1 + 1 ≡ mode
+  same = omega (arith, fits .mode-from)
+
+  mended-in : Mended mode old new n
+  mended-in = subst (λ (m : ℕ). Mended m old new n) same mended
+
+  pub is-none : mode - 1 < n → IsNone mode old new 0
+  is-none h =
+      record {
+        correctable = record { fits = fits; semi-octets = semi };
+        none = mended-in .none (omega (arith, same));
+        kept = mended-in .kept (omega (arith, same));
+        zeroed = refl;
+      }
+
+  pub is-corrected : n ≤ mode - 1 → IsCorrected mode old new n
+  is-corrected h =
+      record {
+        correctable = record { fits = fits; semi-octets = semi };
+        found = mended-in .found (omega (arith, same));
+        only = mended-in .only (omega (arith, same));
+        counted = mended-in .counted (omega (arith, same));
+      }
+
+-- ---- correcting many words
+
+module _ (mode : ℕ) (words counts : List ℕ) where
+  abbrev n : ℕ
+  n = length counts
+
+  abbrev long : ℕ
+  long = length words / n
+
+  abbrev over : ℕ
+  over = length words % n
+
+  none-corrected : (Batch mode words counts → ⊥) → NoneCorrected mode words counts words counts
+  none-corrected h = record { unfit = h; words-kept = refl; counts-kept = refl }
+
+  pub none-asked : n ≡ 0 → NoneCorrected mode words counts words counts
+  none-asked e = none-corrected (λ b. omega (arith, b .some))
+
+  pub none-elements : (SemiOctets words → ⊥) → NoneCorrected mode words counts words counts
+  none-elements not-semi = none-corrected (λ b. not-semi (b .semi-octets))
+
+  module _ (some : 1 ≤ n) where
+    -- the last word is one of the shorter
+    pub none-fitting : (Fits mode long → ⊥) → NoneCorrected mode words counts words counts
+    none-fitting no-fit =
+        none-corrected
+        (λ b.
+        no-fit
+        (subst (λ (t : Bool). Fits mode (pick t (long + 1) long)) (le-ltb (n - 1) over (omega (arith, mod-lt (length words) some)))
+        (b .fits (n - 1) (omega arith))))
+
+    -- the first word is one of the longer, where there are any
+    pub none-fitting-longer : ((0 < over → Fits mode (long + 1)) → ⊥) → NoneCorrected mode words counts words counts
+    none-fitting-longer no-fit =
+        none-corrected
+        (λ b. no-fit (λ h. subst (λ (t : Bool). Fits mode (pick t (long + 1) long)) (lt-ltb 0 over h) (b .fits 0 some)))
+
+    fits-each : Fits mode long → (0 < over → Fits mode (long + 1)) → (i : ℕ) (t : Bool) → ltb i over ≡ t → Fits mode (pick t (long + 1) long)
+    fits-each f g i true e = let h = ltb-true i over e in g (omega arith)
+    fits-each f g i false e = f
+
+    fits-all : Fits mode long → (0 < over → Fits mode (long + 1)) → (i : ℕ) → i < n → Fits mode (lengthAt (length words) n i)
+    fits-all f g i h = fits-each f g i (ltb i over) refl
+
+    pub dealt-out : Fits mode long → (0 < over → Fits mode (long + 1)) → Dealt (length words) n long over
+    dealt-out f g = record { some = some; quotient = refl; rest = refl; short = λ i h. fits-all f g i h .most }
+
+    pub all-corrected : (words′ counts′ : List ℕ) → Fits mode long → (0 < over → Fits mode (long + 1)) → SemiOctets words
+        → length words′ ≡ length words → length counts′ ≡ length counts → EachMended (mode - 1 + 1) words words′ counts′
+        → AllCorrected mode words counts words′ counts′
+    all-corrected words′ counts′ f g semi as-long as-many each =
+        record {
+          batch = record { some = some; fits = fits-all f g; semi-octets = semi };
+          as-many = as-many;
+          as-long = as-long;
+          each = subst (λ (m : ℕ). EachMended m words words′ counts′) same-mode each;
+        }
+      where
+        same-mode : mode - 1 + 1 ≡ mode
+        same-mode = omega (arith, f .mode-from)

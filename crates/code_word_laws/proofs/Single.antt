@@ -1,0 +1,75 @@
+-- One error taken off: a word's values change by those of the error alone, so what is left of its spectrum tells whether the word without it is valid.
+-- Assumes nothing.
+use mathlib.Core.Path.{_≡_, refl, sym, ap, ap₂, _∙_}
+use mathlib.Core.Bool.{true, false, false≢true}
+use mathlib.Core.Logic.{_≢_}
+use mathlib.Core.List.{List, [], _∷_}
+use Prim.Native.Nat.{ℕ, zero, suc, _+_, _≤_, _<_}
+use native.Mathlib.Omega.{arith}
+use native.Mathlib.Nat.{mod-eq-of-lt}
+use lib.Bits.{bitXor}
+use lib.ListN.{length, getD, set, length-set}
+use borrow.Author.Tests.{eq-eqb}
+use Rattle.gf16.specs.Field.{sum, product, power}
+use Rattle.gf16.proofs.Laws.{ring, sum-lt, product-one, power-power}
+use Rattle.code_word_laws.specs.Polynomial.{value}
+use Rattle.code_word_laws.specs.Word.{SemiOctets, Roots, apart, unequal}
+use Rattle.code_word_laws.specs.Correct.{Mended}
+use Rattle.code_word_laws.specs.Packed.{nibble}
+use Rattle.code_word_laws.specs.Corrector.{Row, Spectrum, Clear, Tried}
+use Rattle.code_word_laws.proofs.Packed.{nibble-xor}
+use Rattle.code_word_laws.proofs.Turns.{changed}
+use Rattle.code_word_laws.proofs.Mend.{apart-self, near-by, found-is}
+
+-- v added at place k
+abbrev changed-at : List ℕ → ℕ → ℕ → List ℕ
+changed-at w k v = set w k (sum (getD w k 0) v)
+
+at-first : (c v y : ℕ) → sum (sum c v) y ≡ sum (sum c y) v
+at-first c v y = simp ring
+
+at-later : (c x y v p : ℕ) → sum c (product x (sum y (product v p))) ≡ sum (sum c (product x y)) (product v (product x p))
+at-later c x y v p = simp ring
+
+value-changed : (w : List ℕ) (k v x : ℕ) → k < length w → v < 16 → value (changed-at w k v) x ≡ sum (value w x) (product v (power x k))
+unfolding power
+value-changed [] k v x h l = absurd (omega arith)
+value-changed (c ∷ cs) zero v x h l =
+    at-first c v (product x (value cs x)) ∙ ap (λ (z : ℕ). sum (sum c (product x (value cs x))) z) (sym (product-one v ∙ mod-eq-of-lt l))
+value-changed (c ∷ cs) (suc k) v x h l =
+    ap (λ (z : ℕ). sum c (product x z)) (value-changed cs k v x (omega arith) l) ∙ at-later c x (value cs x) v (power x k)
+
+semi-octets-changed : (w : List ℕ) (k v : ℕ) → k < length w → v < 16 → SemiOctets w → SemiOctets (changed-at w k v)
+semi-octets-changed [] k v h l s = absurd (omega arith)
+semi-octets-changed (c ∷ cs) zero v h l s = (sum-lt c v (s .0) l, s .1)
+semi-octets-changed (c ∷ cs) (suc k) v h l s = (s .0, semi-octets-changed cs k v (omega arith) l (s .1))
+
+apart-changed : (w : List ℕ) (k v : ℕ) → k < length w → v < 16 → v ≢ 0 → apart w (changed-at w k v) ≡ 1
+apart-changed [] k v h l n = absurd (omega arith)
+apart-changed (c ∷ cs) zero v h l n = let e = changed c v l in let r = apart-self cs in omega arith
+apart-changed (c ∷ cs) (suc k) v h l n =
+    ap₂ (λ (a b : ℕ). a + b) (ap unequal (eq-eqb c c refl)) (apart-changed cs k v (omega arith) l n)
+
+-- the word is corrected where the rest of its spectrum is clear
+pub mended-one : (t : ℕ) (old : List ℕ) (s k v r : ℕ) → 1 ≤ t → t ≤ 3 → length old ≤ 15 → SemiOctets old → Spectrum old s → k < length old → v < 16 → v ≢ 0
+    → Row k v r → Clear (t + t) (bitXor s r) → Mended (t + 1) old (set old k (bitXor (getD old k 0) v)) 1
+unfolding sum
+mended-one t old s k v r from to short semi spectrum h l n row clear =
+    found-is t old to short semi (changed-at old k v) 1 (sym one)
+    (near-by t old to short semi (changed-at old k v) (semi-octets-changed old k v h l semi) (length-set old k (sum (getD old k 0) v)) roots (omega (arith, one)))
+  where
+    one : apart old (changed-at old k v) ≡ 1
+    one = apart-changed old k v h l n
+
+    roots : Roots (t + t + 1) (changed-at old k v)
+    roots j p q =
+        value-changed old k v (power 2 j) h l
+        ∙ ap₂ sum (sym (spectrum j (omega arith))) (ap (λ (x : ℕ). product v x) (power-power 2 j k) ∙ sym (row j (omega arith)))
+        ∙ sym (nibble-xor j s r)
+        ∙ clear j p (omega arith)
+
+pub tried-none : (mode : ℕ) (old : List ℕ) → Tried mode old old false
+tried-none mode old = record { one = λ e. absurd (false≢true e); kept = λ e. refl }
+
+pub tried-one : (mode : ℕ) (old new : List ℕ) → Mended mode old new 1 → Tried mode old new true
+tried-one mode old new m = record { one = λ e. m; kept = λ e. absurd (false≢true (sym e)) }

@@ -1,0 +1,44 @@
+-- One code word (document 01, "Code words"): a list of semi-octets, semi-octet k at power k (A.43 to A.45).
+-- Assumes nothing.
+use mathlib.Core.Path.{_≡_}
+use mathlib.Core.Bool.{Bool, true, false}
+use mathlib.Core.List.{List, [], _∷_}
+use Prim.Native.Nat.{ℕ, _+_, _-_, _*_, _≤_, _<_}
+use lib.Dec.{eqb}
+use lib.ListN.{length}
+use Rattle.gf16.specs.Field.{power}
+use Rattle.code_word_laws.specs.Polynomial.{value, Divides, generator}
+
+-- every element is a semi-octet
+abbrev pub SemiOctets : List ℕ → Type 0
+SemiOctets [] = Unit {0}
+SemiOctets (c ∷ cs) = (c < 16) × SemiOctets cs
+
+-- a word is valid for the distance d when the generating polynomial divides it
+abbrev pub Valid : ℕ → List ℕ → Type 0
+Valid d w = Divides (generator d) w
+
+-- the same by the roots; proofs/Division.antt has `valid-roots` and `roots-valid`
+abbrev pub Roots : ℕ → List ℕ → Type 0
+Roots d w = (j : ℕ) → 0 < j → j < d → value w (power 2 j) ≡ 0
+
+abbrev pub unequal : Bool → ℕ
+unequal true = 0
+unequal false = 1
+
+-- the number of places in which two words of one length differ
+abbrev pub apart : List ℕ → List ℕ → ℕ
+apart [] ys = 0
+apart (x ∷ xs) [] = 0
+apart (x ∷ xs) (y ∷ ys) = unequal (eqb x y) + apart xs ys
+
+-- the distance in mode m (A.10)
+abbrev pub distance : ℕ → ℕ
+distance mode = 2 * mode - 1
+
+-- the settings and lengths that a word is taken with: mode 2, 3 or 4, at least the check semi-octets, and at most 15 in all
+pub record Fits (mode long : ℕ) : Type 0 where
+  pub mode-from : 2 ≤ mode
+  pub mode-to : mode ≤ 4
+  pub checks : distance mode - 1 ≤ long
+  pub most : long ≤ 15

@@ -1,0 +1,26 @@
+-- `code_word::corrector::inverted` meets its contract. Assumes nothing.
+use mathlib.Core.Path.{_≡_, ap, _∙_}
+use Prim.Native.Nat.{ℕ, _<_}
+use native.Mathlib.Omega.{arith}
+use lib.ListN.{getD}
+use borrow.Author.Needs.{needs}
+use Rattle.gf16.proofs.Laws.{inverse-lt}
+use Rattle.gf16.specs.Field.{inverse}
+use Rattle.code_word_laws.proofs.Levels.{inverses, inverses-at}
+use Rattle.code_word_locator.proofs.inverted.Statement.{statement}
+use Rattle.code_word_locator.proofs.inverted.Tie as tie
+
+wide-requires : tie.Need-wide-requires
+wide-requires c κs = search needs
+
+array-read-result : tie.Need-array-read-result
+array-read-result c = search needs
+
+returns : tie.Need-returns
+unfolding inverses
+returns c =
+    let e : getD inverses (c .wide .result) 0 ≡ inverse (c .before .args .a) = ap (λ (i : ℕ). getD inverses i 0) (c .wide .ensures) ∙ inverses-at (c .before .args .a) (omega arith) in
+    (e, rw e (inverse-lt (c .before .args .a)))
+
+pub inverted-spec : {M : Type 1} → statement M
+inverted-spec = tie.close (tie.spec wide-requires array-read-result returns)

@@ -1,0 +1,29 @@
+-- `code_word::corrector::logarithm` meets its contract. Assumes nothing.
+use mathlib.Core.Path.{_≡_, ap, _∙_}
+use Prim.Native.Nat.{ℕ}
+use native.Mathlib.Omega.{arith}
+use lib.ListN.{getD}
+use borrow.Author.Needs.{needs}
+use Rattle.gf16.specs.Field.{power}
+use Rattle.code_word_laws.proofs.Levels.{logarithms, logarithms-at, logarithms-lt}
+use Rattle.code_word_locator.proofs.logarithm.Statement.{statement}
+use Rattle.code_word_locator.proofs.logarithm.Tie as tie
+
+wide-requires : tie.Need-wide-requires
+wide-requires c κs = search needs
+
+array-read-wide : tie.Need-array-read-wide
+array-read-wide c = search needs
+
+wide-requires-2 : tie.Need-wide-requires-2
+wide-requires-2 c κs = search needs
+
+returns : tie.Need-returns
+unfolding logarithms
+returns c =
+    let a = c .before .before .args .a in
+    let e : c .wide2 .result ≡ getD logarithms a 0 = c .wide2 .ensures ∙ ap (λ (i : ℕ). getD logarithms i 0) (c .before .wide .ensures) in
+    (rw e (logarithms-lt a (omega arith)), λ n. ap (λ (i : ℕ). power 2 i) e ∙ logarithms-at a (omega arith) n)
+
+pub logarithm-spec : {M : Type 1} → statement M
+logarithm-spec = tie.close (tie.spec wide-requires array-read-wide wide-requires-2 returns)

@@ -1,0 +1,53 @@
+-- `code_word::corrector::rule_one` meets its contract. Assumes nothing.
+use mathlib.Core.Path.{_≡_, refl}
+use native.Mathlib.Omega.{arith}
+use borrow.Author.Needs.{needs}
+use Rattle.gf16.proofs.Laws.{product-lt}
+use Rattle.code_word_laws.proofs.Levels.{rule-one-done}
+use Rattle.code_word_laws.proofs.Packed.{nibble-lt}
+use Rattle.code_word_locator.proofs.rule_one.Statement.{statement}
+use Rattle.code_word_locator.proofs.rule_one.Tie as tie
+
+cast-s1 : tie.Need-cast-s1
+cast-s1 c = search needs
+
+cast-s2 : tie.Need-cast-s2
+cast-s2 c = search needs
+
+cast-s3 : tie.Need-cast-s3
+cast-s3 c = search needs
+
+inverted-requires : tie.Need-inverted-requires
+inverted-requires c κs = nibble-lt 1 (c .args .s)
+
+times-requires : tie.Need-times-requires
+times-requires c κs = (c .before .pre .0, c .inverted .ensures .1, nibble-lt 2 (c .before .args .s))
+
+times-requires-2 : tie.Need-times-requires-2
+times-requires-2 c κs =
+    (c .before .before .before .pre .0, rw (c .before .times .ensures) (product-lt _ _), nibble-lt 2 (c .before .before .before .args .s))
+
+returns : tie.Need-returns
+returns c =
+    let a = c .before .before .before .before in
+    rule-one-done (a .args .s) (a .pre .1) (a .pre .2) (a .pre .3) (a .pre .4) (c .before .before .before .inverted .ensures .0) (c .before .before .times .ensures)
+    (rw (c .times2 .ensures) (product-lt _ _)) (λ e. c .times2 .ensures) (λ n. absurd (omega arith))
+
+returns-2 : tie.Need-returns-2
+returns-2 c =
+    let a = c .before .before .before in
+    rule-one-done (a .args .s) (a .pre .1) (a .pre .2) (a .pre .3) (a .pre .4) (c .before .before .inverted .ensures .0) (c .before .times .ensures)
+    (nibble-lt 3 (a .args .s)) (λ e. absurd (omega arith)) (λ n. refl)
+
+pub rule-one-spec : {M : Type 1} → statement M
+rule-one-spec =
+    tie.close
+    (tie.spec
+    cast-s1
+    cast-s2
+    cast-s3
+    inverted-requires
+    times-requires
+    times-requires-2
+    returns
+    returns-2)

@@ -1,0 +1,115 @@
+-- `code_word::corrector::rule_three` meets its contract. Assumes nothing.
+use borrow.Author.Needs.{needs}
+use Rattle.code_word_laws.proofs.Levels.{rule-three-done}
+use Rattle.code_word_laws.proofs.Packed.{nibble-lt}
+use Rattle.code_word_locator.proofs.rule_three.Statement.{statement}
+use Rattle.code_word_locator.proofs.rule_three.Tie as tie
+
+cast-s1 : tie.Need-cast-s1
+cast-s1 c = search needs
+
+cast-s2 : tie.Need-cast-s2
+cast-s2 c = search needs
+
+cast-s3 : tie.Need-cast-s3
+cast-s3 c = search needs
+
+cast-s4 : tie.Need-cast-s4
+cast-s4 c = search needs
+
+cast-s5 : tie.Need-cast-s5
+cast-s5 c = search needs
+
+cast-s6 : tie.Need-cast-s6
+cast-s6 c = search needs
+
+crossed-requires : tie.Need-crossed-requires
+crossed-requires c κs =
+    let s = c .args .s in
+    (c .pre .0, nibble-lt 1 s, nibble-lt 2 s, nibble-lt 2 s, nibble-lt 3 s)
+
+crossed-requires-2 : tie.Need-crossed-requires-2
+crossed-requires-2 c κs =
+    let s = c .before .args .s in
+    (c .before .pre .0, nibble-lt 1 s, nibble-lt 3 s, nibble-lt 2 s, nibble-lt 4 s)
+
+crossed-requires-3 : tie.Need-crossed-requires-3
+crossed-requires-3 c κs =
+    let s = c .before .before .args .s in
+    (c .before .before .pre .0, nibble-lt 1 s, nibble-lt 4 s, nibble-lt 2 s, nibble-lt 5 s)
+
+crossed-requires-4 : tie.Need-crossed-requires-4
+crossed-requires-4 c κs =
+    let s = c .before .before .before .args .s in
+    (c .before .before .before .pre .0, nibble-lt 2 s, nibble-lt 3 s, nibble-lt 3 s, nibble-lt 4 s)
+
+crossed-requires-5 : tie.Need-crossed-requires-5
+crossed-requires-5 c κs =
+    let s = c .before .before .before .before .args .s in
+    (c .before .before .before .before .pre .0, nibble-lt 2 s, nibble-lt 4 s, nibble-lt 3 s, nibble-lt 5 s)
+
+crossed-requires-6 : tie.Need-crossed-requires-6
+crossed-requires-6 c κs =
+    let s = c .before .before .before .before .before .args .s in
+    (c .before .before .before .before .before .pre .0, nibble-lt 3 s, nibble-lt 4 s, nibble-lt 4 s, nibble-lt 5 s)
+
+tripled-requires : tie.Need-tripled-requires
+tripled-requires c κs =
+    let s = c .before .before .before .before .before .before .args .s in
+    (c .before .before .before .before .before .before .pre .0, c .before .crossed5 .ensures .1, nibble-lt 3 s, c .before .before .before .crossed3 .ensures .1, nibble-lt 4 s, c .before .before .before .before .before .crossed .ensures .1, nibble-lt 6 s)
+
+tripled-requires-2 : tie.Need-tripled-requires-2
+tripled-requires-2 c κs =
+    let s = c .before .before .before .before .before .before .before .args .s in
+    (c .before .before .before .before .before .before .before .pre .0, c .before .crossed6 .ensures .1, nibble-lt 3 s, c .before .before .before .before .crossed3 .ensures .1, nibble-lt 5 s, c .before .before .before .before .before .crossed2 .ensures .1, nibble-lt 6 s)
+
+tripled-requires-3 : tie.Need-tripled-requires-3
+tripled-requires-3 c κs =
+    let s = c .before .before .before .before .before .before .before .before .args .s in
+    (c .before .before .before .before .before .before .before .before .pre .0, c .before .before .crossed6 .ensures .1, nibble-lt 4 s, c .before .before .before .crossed5 .ensures .1, nibble-lt 5 s, c .before .before .before .before .crossed4 .ensures .1, nibble-lt 6 s)
+
+inverted-requires : tie.Need-inverted-requires
+inverted-requires c κs = c .before .before .before .before .before .before .before .before .before .pre .1
+
+times-requires : tie.Need-times-requires
+times-requires c κs = (c .before .before .before .before .before .before .before .before .before .before .pre .0, c .inverted .ensures .1, c .before .before .before .tripled .ensures .1)
+
+times-requires-2 : tie.Need-times-requires-2
+times-requires-2 c κs = (c .before .before .before .before .before .before .before .before .before .before .before .pre .0, c .before .inverted .ensures .1, c .before .before .before .tripled2 .ensures .1)
+
+times-requires-3 : tie.Need-times-requires-3
+times-requires-3 c κs = (c .before .before .before .before .before .before .before .before .before .before .before .before .pre .0, c .before .before .inverted .ensures .1, c .before .before .before .tripled3 .ensures .1)
+
+returns : tie.Need-returns
+returns c =
+    let a = c .before .before .before .before .before .before .before .before .before .before .before .before .before in
+    rule-three-done (a .args .s) (a .pre .2) (a .pre .3)
+    (c .before .before .before .before .before .before .before .before .before .before .before .before .crossed .ensures .0) (c .before .before .before .before .before .before .before .before .before .before .before .crossed2 .ensures .0) (c .before .before .before .before .before .before .before .before .before .before .crossed3 .ensures .0)
+    (c .before .before .before .before .before .before .before .before .before .crossed4 .ensures .0) (c .before .before .before .before .before .before .before .before .crossed5 .ensures .0) (c .before .before .before .before .before .before .before .crossed6 .ensures .0)
+    (c .before .before .before .before .before .before .tripled .ensures .0) (c .before .before .before .before .before .tripled2 .ensures .0) (c .before .before .before .before .tripled3 .ensures .0)
+    (c .before .before .before .inverted .ensures .0) (c .before .before .times .ensures) (c .before .times2 .ensures) (c .times3 .ensures)
+
+pub rule-three-spec : {M : Type 1} → statement M
+rule-three-spec =
+    tie.close
+    (tie.spec
+    cast-s1
+    cast-s2
+    cast-s3
+    cast-s4
+    cast-s5
+    cast-s6
+    crossed-requires
+    crossed-requires-2
+    crossed-requires-3
+    crossed-requires-4
+    crossed-requires-5
+    crossed-requires-6
+    tripled-requires
+    tripled-requires-2
+    tripled-requires-3
+    inverted-requires
+    times-requires
+    times-requires-2
+    times-requires-3
+    returns)

@@ -1,0 +1,58 @@
+-- `code_word::corrector::rule_two` meets its contract. Assumes nothing.
+use borrow.Author.Needs.{needs}
+use Rattle.code_word_laws.proofs.Levels.{rule-two-done}
+use Rattle.code_word_laws.proofs.Packed.{nibble-lt}
+use Rattle.code_word_locator.proofs.rule_two.Statement.{statement}
+use Rattle.code_word_locator.proofs.rule_two.Tie as tie
+
+cast-s1 : tie.Need-cast-s1
+cast-s1 c = search needs
+
+cast-s2 : tie.Need-cast-s2
+cast-s2 c = search needs
+
+cast-s3 : tie.Need-cast-s3
+cast-s3 c = search needs
+
+cast-s4 : tie.Need-cast-s4
+cast-s4 c = search needs
+
+crossed-requires : tie.Need-crossed-requires
+crossed-requires c κs =
+    let s = c .args .s in
+    (c .pre .0, nibble-lt 1 s, nibble-lt 3 s, nibble-lt 2 s, nibble-lt 4 s)
+
+crossed-requires-2 : tie.Need-crossed-requires-2
+crossed-requires-2 c κs =
+    let s = c .before .args .s in
+    (c .before .pre .0, nibble-lt 2 s, nibble-lt 3 s, nibble-lt 3 s, nibble-lt 4 s)
+
+inverted-requires : tie.Need-inverted-requires
+inverted-requires c κs = c .before .before .pre .3
+
+times-requires : tie.Need-times-requires
+times-requires c κs = (c .before .before .before .pre .0, c .inverted .ensures .1, c .before .before .crossed .ensures .1)
+
+times-requires-2 : tie.Need-times-requires-2
+times-requires-2 c κs = (c .before .before .before .before .pre .0, c .before .inverted .ensures .1, c .before .before .crossed2 .ensures .1)
+
+returns : tie.Need-returns
+returns c =
+    let a = c .before .before .before .before .before in
+    rule-two-done (a .args .s) (a .pre .1) (a .pre .2) (a .pre .4) (a .pre .5) (a .pre .6) (c .before .before .before .before .crossed .ensures .0) (c .before .before .before .crossed2 .ensures .0)
+    (c .before .before .inverted .ensures .0) (c .before .times .ensures) (c .times2 .ensures)
+
+pub rule-two-spec : {M : Type 1} → statement M
+rule-two-spec =
+    tie.close
+    (tie.spec
+    cast-s1
+    cast-s2
+    cast-s3
+    cast-s4
+    crossed-requires
+    crossed-requires-2
+    inverted-requires
+    times-requires
+    times-requires-2
+    returns)

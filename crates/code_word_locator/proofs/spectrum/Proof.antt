@@ -1,0 +1,58 @@
+-- `code_word::corrector::spectrum` meets its contract. The loop has the spectrum of the semi-octets passed. Assumes nothing.
+use Prim.Native.Nat.{_≤_, _-_}
+use native.Mathlib.Omega.{arith}
+use lib.ListN.{length, getD}
+use borrow.Author.Needs.{needs}
+use Rattle.code_word_laws.proofs.Division.{semi-octet-at}
+use Rattle.code_word_laws.proofs.Turns.{SpectrumTo, spectrum-first, spectrum-next, spectrum-last}
+use Rattle.code_word_locator.proofs.spectrum.Statement.{statement}
+use Rattle.code_word_locator.proofs.spectrum.Tie as tie
+
+abbrev Inv-loop : tie.InvT-loop
+Inv-loop t word s₀ i₀ s i = (i ≤ length word) × SpectrumTo word i s
+
+abbrev μ-loop : tie.MeasureT-loop
+μ-loop t word s₀ i₀ s i = length word - i
+
+loop-holds : tie.Need-loop-holds Inv-loop μ-loop
+loop-holds c = (search needs, spectrum-first (c .before .args .word .now))
+
+shared-slice-read-row : tie.Need-shared-slice-read-row Inv-loop μ-loop
+shared-slice-read-row c = search needs
+
+row-requires : tie.Need-row-requires Inv-loop μ-loop
+row-requires c κs =
+    let h = c .before .before in
+    let a = h .before .before in
+    (a .pre .0, omega arith, semi-octet-at (a .args .word .now) (h .loop .i) (a .pre .1))
+
+add-i : tie.Need-add-i Inv-loop μ-loop
+add-i c = search needs
+
+loop-less : tie.Need-loop-less Inv-loop μ-loop
+loop-less c = search needs
+
+loop-again : tie.Need-loop-again Inv-loop μ-loop
+loop-again c =
+    let h = c .before .before .before in
+    let a = h .before .before in
+    (search needs, spectrum-next (a .args .word .now) (h .loop .i) (h .loop .s) (c .row .result) (c .before .before .loop-test .taken) (a .pre .1) (h .loop .inv .1) (c .row .ensures))
+
+returns : tie.Need-returns Inv-loop μ-loop
+returns c =
+    let h = c .before in
+    spectrum-last (h .before .before .args .word .now) (h .loop .i) (h .loop .s) (omega arith) (h .loop .inv .1)
+
+pub spectrum-spec : {M : Type 1} → statement M
+spectrum-spec =
+    tie.close
+    (tie.spec
+    Inv-loop
+    μ-loop
+    loop-holds
+    shared-slice-read-row
+    row-requires
+    add-i
+    loop-less
+    loop-again
+    returns)

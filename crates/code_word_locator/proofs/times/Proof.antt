@@ -1,0 +1,60 @@
+-- `code_word::corrector::times` meets its contract. Assumes nothing.
+use mathlib.Core.Path.{_≡_, ap, _∙_}
+use Prim.Native.Nat.{ℕ, _+_, _*_, _/_}
+use native.Mathlib.Omega.{arith}
+use lib.ListN.{getD}
+use borrow.Author.Needs.{needs}
+use Rattle.gf16.proofs.Laws.{product-lt}
+use Rattle.gf16.specs.Field.{product}
+use Rattle.code_word_locator.proofs.times.Statement.{statement}
+use Rattle.code_word_locator.proofs.times.Tie as tie
+
+mul-wide : tie.Need-mul-wide
+mul-wide c = search needs
+
+add-wide : tie.Need-add-wide
+add-wide c = search needs
+
+wide-requires : tie.Need-wide-requires
+wide-requires c κs = search needs
+
+mul-result : tie.Need-mul-result
+mul-result c = search needs
+
+add-result : tie.Need-add-result
+add-result c = search needs
+
+mul-result-2 : tie.Need-mul-result-2
+mul-result-2 c = search needs
+
+element-copy-out-result : tie.Need-element-copy-out-result
+element-copy-out-result c = search needs
+
+cast-result : tie.Need-cast-result
+cast-result c =
+    let a = c .before .before .args .a in
+    let b = c .before .before .args .b in
+    let e =
+    ap (λ (i : ℕ). getD (c .before .before .args .t .now) (2 * i + 1) 0 / 268435456) (c .before .wide .ensures)
+    ∙ c .before .before .pre .0 .times a b (omega arith) (omega arith)
+    in
+    record { fits = omega (arith, product-lt a b) }
+
+returns : tie.Need-returns
+returns c =
+    ap (λ (i : ℕ). getD (c .before .before .args .t .now) (2 * i + 1) 0 / 268435456) (c .before .wide .ensures)
+    ∙ c .before .before .pre .0 .times (c .before .before .args .a) (c .before .before .args .b) (omega arith) (omega arith)
+
+pub times-spec : {M : Type 1} → statement M
+times-spec =
+    tie.close
+    (tie.spec
+    mul-wide
+    add-wide
+    wide-requires
+    mul-result
+    add-result
+    mul-result-2
+    element-copy-out-result
+    cast-result
+    returns)

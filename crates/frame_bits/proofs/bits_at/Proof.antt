@@ -1,0 +1,68 @@
+-- `frame::bits::bits_at` meets its contract. The invariant of its loop stands at the head. Assumes nothing.
+use mathlib.Core.Path.{_≡_}
+use Prim.Native.Nat.{_-_, _≤_}
+use native.Mathlib.Omega.{arith}
+use denote.Ref.{now}
+use borrow.Author.Needs.{needs}
+use Rattle.frame_bits.specs.Bits.{bitsOf}
+use Rattle.frame_bits.proofs.bits_at.Statement.{statement}
+use Rattle.frame_bits.proofs.SideBits.{bits-none, bits-room, bits-next}
+use Rattle.frame_bits.proofs.bits_at.Tie as tie
+
+abbrev Inv-loop : tie.InvT-loop
+Inv-loop s p n v₀ i₀ v i = (i ≤ n) × (v ≡ bitsOf s p i)
+
+abbrev μ-loop : tie.MeasureT-loop
+μ-loop s p n v₀ i₀ v i = n - i
+
+loop-holds : tie.Need-loop-holds Inv-loop μ-loop
+loop-holds c = let a = c .before .args in (omega arith, bits-none (now (a .s)) (a .p))
+
+add-bit-at : tie.Need-add-bit-at Inv-loop μ-loop
+add-bit-at c = search needs
+
+bit-at-requires : tie.Need-bit-at-requires Inv-loop μ-loop
+bit-at-requires c κs = search needs
+
+shl-v : tie.Need-shl-v Inv-loop μ-loop
+shl-v c = search needs
+
+add-v : tie.Need-add-v Inv-loop μ-loop
+add-v c =
+    let l = c .before .before .loop in
+    let a = c .before .before .before .before .args in
+    record { fits = bits-room (now (a .s)) (a .p) (l .i) (l .v) (c .bit-at .result) (l .inv .1) (c .bit-at .ensures .1) (omega arith) }
+
+add-i : tie.Need-add-i Inv-loop μ-loop
+add-i c = search needs
+
+loop-less : tie.Need-loop-less Inv-loop μ-loop
+loop-less c = search needs
+
+loop-again : tie.Need-loop-again Inv-loop μ-loop
+loop-again c =
+    let l = c .before .before .loop in
+    let a = c .before .before .before .before .args in
+    (omega arith, bits-next (now (a .s)) (a .p) (l .i) (l .v) (c .bit-at .result) (l .inv .1) (c .bit-at .ensures .0) (c .bit-at .ensures .1) (omega arith))
+
+returns : tie.Need-returns Inv-loop μ-loop
+returns c =
+    let l = c .before .loop in
+    let e : l .i ≡ c .before .before .before .args .n = omega arith in
+    rw e at (l .inv .1)
+
+pub bits-at-spec : {M : Type 1} → statement M
+bits-at-spec =
+    tie.close
+    (tie.spec
+    Inv-loop
+    μ-loop
+    loop-holds
+    add-bit-at
+    bit-at-requires
+    shl-v
+    add-v
+    add-i
+    loop-less
+    loop-again
+    returns)

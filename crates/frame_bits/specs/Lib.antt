@@ -1,0 +1,4 @@
+-- Definitions.
+pub mod Bits
+pub mod Read
+pub mod Sound

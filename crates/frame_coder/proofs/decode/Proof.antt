@@ -1,0 +1,49 @@
+-- `frame::coder::decode` meets its contract. By the symbol found and the refill behind it. Assumes nothing.
+use mathlib.Core.Path.{refl, sym, _∙_}
+use native.Mathlib.Omega.{arith}
+use borrow.Author.Needs.{needs}
+use Rattle.frame_coder.proofs.Decoding.{scaled-rise, narrow, symbol-high, symbol-taken, good-symbol}
+use Rattle.frame_coder.proofs.decode.Statement.{statement}
+use Rattle.frame_coder.proofs.decode.Tie as tie
+
+mul-if1 : tie.Need-mul-if1
+mul-if1 c = search needs
+
+returns : tie.Need-returns
+returns c =
+    let a = c .before .before .before .args in
+    (sym (symbol-high (a .s .now) (a .cum .now) (a .row) (a .last) (a .c) (c .if1 .taken)), (omega arith, omega arith))
+
+find-requires : tie.Need-find-requires
+find-requires c κs = search needs
+
+sub-t10 : tie.Need-sub-t10
+sub-t10 c = search needs
+
+sub-t12 : tie.Need-sub-t12
+sub-t12 c = scaled-rise (c .before .before .before .before .before .before .pre .1) (c .before .before .find .ensures .1)
+
+add-t13 : tie.Need-add-t13
+add-t13 c = search needs
+
+refill-requires : tie.Need-refill-requires
+refill-requires c κs =
+    let f = c .before .before .before in
+    let h = f .before .before .before .before in
+    (h .pre .0, narrow (f .find .result) (h .pre .1) (h .pre .4) (f .find .ensures .1))
+
+returns-2 : tie.Need-returns-2
+returns-2 c =
+    let f = c .before .before .before .before in
+    let h = f .before .before .before .before in
+    let a = h .args in
+    let g = f .find .ensures in
+    let e = symbol-taken (a .s .now) (a .cum .now) (a .row) (a .last) (a .c .low) (f .find .result) (a .c) (f .before .if1 .left) (g .0) (g .1) in (
+      c .refill .ensures .0 ∙ sym e,
+      good-symbol (a .s .now) (a .last) (f .find .result .symbol) (a .c) _ (c .refill .result) (g .1 .symbol) refl (c .refill .ensures .1),
+    )
+
+pub decode-spec : {M : Type 1} → statement M
+decode-spec =
+    tie.close
+    (tie.spec mul-if1 returns find-requires sub-t10 sub-t12 add-t13 refill-requires returns-2)

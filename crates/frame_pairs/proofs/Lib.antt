@@ -1,0 +1,3 @@
+-- Laws.
+pub mod Escaping
+pub mod PairWalk

@@ -1,0 +1,37 @@
+-- `frame::pairs::row_of` meets its contract. The entry that the lookup names. Assumes nothing.
+use borrow.Author.Needs.{needs}
+use Rattle.frame_pairs.proofs.row_of.Statement.{statement}
+use Rattle.frame_pairs.proofs.row_of.Tie as tie
+use native.Mathlib.Omega.{arith}
+use denote.Ref.{now}
+use Rattle.frame_pairs.proofs.Escaping.{row-is}
+
+cap-requires : tie.Need-cap-requires
+cap-requires c κs = search needs
+
+mul-at : tie.Need-mul-at
+mul-at c = search needs
+
+add-at : tie.Need-add-at
+add-at c = search needs
+
+shared-slice-read-wide : tie.Need-shared-slice-read-wide
+shared-slice-read-wide c = search needs
+
+wide-requires : tie.Need-wide-requires
+wide-requires c κs = search needs
+
+mul-result : tie.Need-mul-result
+mul-result c = search needs
+
+returns : tie.Need-returns
+returns c =
+    let s = c .before .before .before .before in
+    let a = s .args in
+    let l = c .before .before .cap in
+    (row-is (now (a .look)) (a .base) (a .level) (l .result) (c .wide .result) (s .pre .1) (omega arith) (l .ensures .0) (c .wide .ensures .0), omega arith)
+
+pub row-of-spec : {M : Type 1} → statement M
+row-of-spec =
+    tie.close
+    (tie.spec cap-requires mul-at add-at shared-slice-read-wide wide-requires mul-result returns)

@@ -1,0 +1,3 @@
+-- Definitions.
+pub mod Pairs
+pub mod Sound

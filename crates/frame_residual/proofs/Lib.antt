@@ -1,0 +1,4 @@
+-- Laws.
+pub mod BitsLeft
+pub mod Copying
+pub mod LateBits

@@ -1,0 +1,3 @@
+-- Definitions.
+pub mod Residual
+pub mod Sound

@@ -1,0 +1,200 @@
+// Residual data and finalization (5.4.2.8): the bits left, the residual bits, the late low bits, and both handed to the lent buffers.
+// Each function equals its definition in specs/Residual.antt; nothing that is read here leaves the frame.
+ghost use mathlib.Core.Path.{_≡_};
+ghost use Prim.Native.Nat.{_+_, _*_, _≤_, _<_, _/_};
+ghost use lib.ListN.{length, take, replicate};
+ghost use lib.IntN.{natAbs};
+ghost use Rattle.frame_settings.specs.Settings.{Sized};
+ghost use Rattle.frame_pairs.specs.Pairs.{Spectrum};
+ghost use Rattle.frame_residual.specs.Residual.{Residual, log2Of, leftOf, leftGiven, leftCause, residualOf, away, bornOf, lateOf, lateGiven, latesOf};
+ghost use Rattle.frame_residual.specs.Residual.{finishedOf, sentBits};
+ghost use Rattle.frame_coder.specs.Sound.{Sound};
+ghost use Rattle.frame_residual.specs.Sound.{GoodLeft, GoodLate};
+ghost use Rattle.frame_pairs.specs.Sound.{Roomy, Small};
+use frame_bits::bit_at;
+use frame_bits::wide;
+use frame_coder::Coder;
+
+// The bits left for the residual, or cause 7.
+pub enum Left {
+    Value(usize),
+    Cause(u8),
+}
+
+pub fn left_cause(r: Left) -> u8
+    ensures { λ k. ⌜ k ≡ leftCause r ⌝ }
+{
+    match r {
+        Left::Cause(k) => k,
+        Left::Value(_) => 0,
+    }
+}
+
+fn log2(r: usize) -> usize
+    ensures { λ k. ⌜ (k ≡ log2Of r 23) × (k ≤ 23) ⌝ }
+{
+    let mut k = 23;
+    while 0 < k {
+        if (1 << k) <= r {
+            return k;
+        }
+        k = k - 1;
+    }
+    0
+}
+
+pub fn bits_left(bytes: usize, p: usize, c: Coder) -> Left
+    requires { ⌜ (bytes ≤ 400) × (p ≤ 8 * bytes + 23) × (3 ≤ c .at) × (c .at ≤ bytes) × (c .range < 16777216) ⌝ }
+    ensures { λ r. ⌜ leftGiven r p ≡ leftOf bytes p c ⌝ }
+    ensures { λ r. ⌜ GoodLeft bytes p r ⌝ }
+{
+    let at = c.at;
+    let used = p + (8 * (at - 3) + (25 - log2(c.range)));
+    if 8 * bytes < used {
+        return Left::Cause(7);
+    }
+    Left::Value(8 * bytes - used)
+}
+
+// The residual bits of LSB mode 0, packed into `bits`; their number.
+fn read_residual(s: &[u8], lines: &[i32], p: usize, left: usize, n: usize, bits: &mut [u8]) -> usize
+    requires { ⌜ Sized (now s) × (n ≤ length (now lines)) × (length (now bits) ≡ n) × (p + left ≤ 8 * length (now s)) ⌝ }
+    ensures { λ r. ⌜ _≡_ {A = Residual} (record { number = r; bits = now (bits .exit) }) (residualOf (now (s .entry)) (now (lines .entry)) p left n 0 0 (now (bits .entry))) ⌝ }
+    ensures { λ r. ⌜ r ≤ n ⌝ }
+{
+    let mut count = 0;
+    let mut k = 0;
+    while k < n {
+        let at = k;
+        k = k + 1;
+        if lines[at] != 0 {
+            if left <= count {
+                return count;
+            }
+            bits[count] = bit_at(s, p + count) as u8;
+            count = count + 1;
+        }
+    }
+    count
+}
+
+// What a line becomes by its late low bits, with the next cursor and the bits left; or no bit was left where one was wanted.
+pub enum LateRead {
+    Line(i32, usize, usize),
+    Stop,
+}
+
+// One further from 0.
+fn further(v: i32) -> i32
+    requires { ⌜ natAbs v ≤ 32767 ⌝ }
+    ensures { λ r. ⌜ r ≡ away v ⌝ }
+{
+    if v < 0 { v - 1 } else { v + 1 }
+}
+
+// The sign of a line that was 0.
+fn born(s: &[u8], p: usize, left: usize) -> LateRead
+    requires { ⌜ Sized (now s) × (p + left ≤ 8 * length (now s)) ⌝ }
+    ensures { λ r. ⌜ lateGiven r ≡ bornOf (now (s .entry)) p left ⌝ }
+    ensures { λ r. ⌜ GoodLate 0 (p + left) r ⌝ }
+{
+    if left == 0 {
+        return LateRead::Stop;
+    }
+    if bit_at(s, p) == 0 {
+        return LateRead::Line(1, p + 1, left - 1);
+    }
+    LateRead::Line(-1, p + 1, left - 1)
+}
+
+// The late low bits of a line.
+fn read_late(s: &[u8], v: i32, p: usize, left: usize) -> LateRead
+    requires { ⌜ Sized (now s) × (p + left ≤ 8 * length (now s)) × (natAbs v ≤ 32767) ⌝ }
+    ensures { λ r. ⌜ lateGiven r ≡ lateOf (now (s .entry)) v p left ⌝ }
+    ensures { λ r. ⌜ GoodLate (natAbs v) (p + left) r ⌝ }
+{
+    if left == 0 {
+        return LateRead::Stop;
+    }
+    if bit_at(s, p) == 0 {
+        return LateRead::Line(v, p + 1, left - 1);
+    }
+    if v == 0 {
+        return born(s, p + 1, left - 1);
+    }
+    LateRead::Line(further(v), p + 1, left - 1)
+}
+
+// The late low bits of LSB mode 1, into the first n lines.
+fn read_lates(s: &[u8], levels: &[u8], n: usize, lines: &mut [i32], start: usize, room: usize)
+    requires { ⌜ Sized (now s) × (n ≤ 400) × (length (now lines) ≡ 400) × (length (now levels) ≡ 200) × (start + room ≤ 8 * length (now s)) × Roomy 1 (now lines) (now levels) ⌝ }
+    ensures { λ _. ⌜ now (lines .exit) ≡ latesOf (now (s .entry)) (now (levels .entry)) n 0 (now (lines .entry)) start room ⌝ }
+    ensures { λ _. ⌜ Small (now (lines .exit)) ⌝ }
+{
+    let mut p = start;
+    let mut left = room;
+    let mut k = 0;
+    while k < n {
+        let at = k;
+        k = k + 1;
+        if levels[at / 2] != 0 {
+            let got = read_late(s, lines[at], p, left);
+            let LateRead::Line(v, next, fewer) = got else {
+                return;
+            };
+            lines[at] = v;
+            p = next;
+            left = fewer;
+        }
+    }
+}
+
+fn clear(out: &mut [u8])
+    requires { ⌜ length (now out) ≤ 400 ⌝ }
+    ensures { λ _. ⌜ now (out .exit) ≡ replicate (length (now (out .entry))) 0 ⌝ }
+{
+    let mut i = 0;
+    while i < out.len() {
+        out[i] = 0;
+        i = i + 1;
+    }
+}
+
+fn copy(lines: &[i32], out: &mut [i32])
+    requires { ⌜ length (now out) ≤ length (now lines) ⌝ }
+    ensures { λ _. ⌜ now (out .exit) ≡ take (length (now (out .entry))) (now (lines .entry)) ⌝ }
+{
+    let mut i = 0;
+    while i < out.len() {
+        out[i] = lines[i];
+        i = i + 1;
+    }
+}
+
+// After the last check: residual or late low bits, and what is read goes to the lent buffers; the number of residual bits.
+pub fn finish(
+    s: &[u8],
+    lsb: usize,
+    last: usize,
+    lines: &mut [i32],
+    levels: &[u8],
+    p: usize,
+    left: usize,
+    spectrum: &mut [i32],
+    bits: &mut [u8],
+) -> usize
+    requires { ⌜ Sized (now s) × (lsb < 2) × (last ≤ 400) × (length (now lines) ≡ 400) × (length (now levels) ≡ 200) × (p + left ≤ 8 * length (now s)) × Roomy lsb (now lines) (now levels) × (length (now spectrum) ≤ 400) × (length (now bits) ≡ length (now spectrum)) ⌝ }
+    ensures { λ r. ⌜ _≡_ {A = Residual} (record { number = r; bits = now (bits .exit) }) (sentBits (now (s .entry)) lsb (length (now (spectrum .entry))) (record { lines = now (lines .entry); levels = now (levels .entry) }) p left) ⌝ }
+    ensures { λ r. ⌜ now (spectrum .exit) ≡ take (length (now (spectrum .entry))) (finishedOf (now (s .entry)) lsb last (record { lines = now (lines .entry); levels = now (levels .entry) }) p left) ⌝ }
+    ensures { λ r. ⌜ Small (now (spectrum .exit)) × (r ≤ 400) ⌝ }
+{
+    clear(bits);
+    if lsb == 0 {
+        let n = bits.len();
+        copy(lines, spectrum);
+        return read_residual(s, lines, p, left, n, bits);
+    }
+    read_lates(s, levels, last, lines, p, left);
+    copy(lines, spectrum);
+    0
+}

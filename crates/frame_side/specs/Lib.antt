@@ -1,0 +1,3 @@
+-- Definitions.
+pub mod Side
+pub mod Sound

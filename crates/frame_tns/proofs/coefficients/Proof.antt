@@ -1,0 +1,123 @@
+-- `frame::tns::coefficients` meets its contract. The loop keeps what is still to be read equal to the whole. Assumes nothing.
+use mathlib.Core.Path.{_≡_, sym, _∙_}
+use Prim.Native.Nat.{_+_, _-_, _≤_}
+use native.Mathlib.Omega.{arith}
+use lib.ListN.{length, length-set}
+use borrow.Author.Needs.{needs}
+use Rattle.frame_tns.specs.Tns.{coefficientsOf}
+use Rattle.frame_coder.specs.Sound.{Sound}
+use Rattle.frame_tns.proofs.CoefficientSteps.{coefficients-all, coefficients-done, coefficients-cause, coefficients-more}
+use Rattle.frame_tns.proofs.coefficients.Statement.{statement}
+use Rattle.frame_tns.proofs.coefficients.Tie as tie
+
+abbrev Inv-loop : tie.InvT-loop
+Inv-loop s rows n out₀ c₀ k₀ out c k =
+    (k ≤ n) × (length out ≡ 8) × Sound s c × (c .taken ≡ c₀ .taken + k) × (coefficientsOf s rows (n - k) k out c ≡ coefficientsOf s rows n 0 out₀ c₀)
+
+abbrev μ-loop : tie.MeasureT-loop
+μ-loop s rows n out₀ c₀ k₀ out c k = n - k
+
+loop-holds : tie.Need-loop-holds Inv-loop μ-loop
+loop-holds c =
+    let h = c .before .before .before in
+    let a = h .args in
+    (omega arith, h .pre .3, h .pre .4, omega arith, coefficients-all (a .s .now) (a .rows .now) (a .n) (a .out .now) (a .first))
+
+mul-decode : tie.Need-mul-decode Inv-loop μ-loop
+mul-decode c = search needs
+
+decode-requires : tie.Need-decode-requires Inv-loop μ-loop
+decode-requires c κs =
+    let h = c .before in
+    let p = h .before .before .before .before .pre in
+    let i = h .loop .inv in
+    (p .0, p .1 (h .loop .k) (omega arith), omega arith, omega arith, i .2, omega arith)
+
+enum-known-got : tie.Need-enum-known-got Inv-loop μ-loop
+enum-known-got c = search needs
+
+enum-told : tie.Need-enum-told Inv-loop μ-loop
+enum-told c = search needs
+
+symbol-cause-requires : tie.Need-symbol-cause-requires Inv-loop μ-loop
+symbol-cause-requires c κs = search needs
+
+same-length : tie.Need-same-length Inv-loop μ-loop
+same-length c = search needs
+
+returns : tie.Need-returns Inv-loop μ-loop
+returns c =
+    let d = c .before .before .before in
+    let h = d .before .before in
+    let l = h .loop in
+    let a = h .before .before .before .before .args in
+    let e = c .before .enum-told .given .1 in
+    let k = rw e at (c .symbol-cause .ensures) in
+    let f = sym (rw e at (d .decode .ensures .0)) in
+    let g = rw e at (d .decode .ensures .1) in
+    let z = coefficients-cause (a .s .now) (a .rows .now) (a .n) (l .k) (l .out) (l .c) _ (d .before .loop-test .taken) f in
+    (rw k (sym z ∙ l .inv .4), rw k g)
+
+cast-out : tie.Need-cast-out Inv-loop μ-loop
+cast-out c =
+    let g = rw (c .before .got .given .1) at (c .before .before .before .decode .ensures .1) in
+    let m = g .0 in
+    record { fits = omega arith }
+
+slice-write-out : tie.Need-slice-write-out Inv-loop μ-loop
+slice-write-out c = search needs
+
+add-k : tie.Need-add-k Inv-loop μ-loop
+add-k c = search needs
+
+loop-less : tie.Need-loop-less Inv-loop μ-loop
+loop-less c = search needs
+
+loop-again : tie.Need-loop-again Inv-loop μ-loop
+loop-again c =
+    let d = c .before .before .before in
+    let h = d .before .before in
+    let l = h .loop in
+    let a = h .before .before .before .before .args in
+    let e = c .before .got .given .1 in
+    let f = sym (rw e at (d .decode .ensures .0)) in
+    let g = rw e at (d .decode .ensures .1) in
+    let t = g .1 in (
+      omega arith,
+      length-set (l .out) (l .k) (c .before .got .given .0 .0) ∙ l .inv .1,
+      g .2,
+      omega arith,
+      coefficients-more (a .s .now) (a .rows .now) (a .n) (l .k) (l .out) (l .c) _ _ (d .before .loop-test .taken) f ∙ l .inv .4,
+    )
+
+same-length-2 : tie.Need-same-length-2 Inv-loop μ-loop
+same-length-2 c = search needs
+
+returns-2 : tie.Need-returns-2 Inv-loop μ-loop
+returns-2 c =
+    let h = c .before in
+    let l = h .loop in
+    let a = h .before .before .before .before .args in
+    (sym (coefficients-done (a .s .now) (a .rows .now) (a .n) (l .k) (l .out) (l .c) (c .loop-test .left)) ∙ l .inv .4, (omega arith, l .inv .2))
+
+pub coefficients-spec : {M : Type 1} → statement M
+coefficients-spec =
+    tie.close
+    (tie.spec
+    Inv-loop
+    μ-loop
+    loop-holds
+    mul-decode
+    decode-requires
+    enum-known-got
+    enum-told
+    symbol-cause-requires
+    same-length
+    returns
+    cast-out
+    slice-write-out
+    add-k
+    loop-less
+    loop-again
+    same-length-2
+    returns-2)

@@ -1,0 +1,6 @@
+-- Laws.
+pub mod Before
+pub mod Inverse
+pub mod Numbers
+pub mod Putting
+pub mod Walking

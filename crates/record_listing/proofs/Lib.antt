@@ -1,0 +1,4 @@
+-- Laws.
+pub mod Examples
+pub mod Lines
+pub mod Spelling

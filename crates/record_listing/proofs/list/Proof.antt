@@ -1,0 +1,121 @@
+-- `record::listing::list` meets its contract: each way out puts the listing of what was read. Assumes nothing.
+use mathlib.Core.List.{_++_}
+use mathlib.Core.Path.{_≡_, sym, ap, _∙_}
+use Prim.Native.Nat.{_≤_}
+use native.Mathlib.Omega.{arith}
+use lib.ListN.{length}
+use denote.Ref.{now}
+use borrow.Author.Needs.{needs}
+use Rattle.record_listing.proofs.list.Tie as tie
+use Rattle.record_listing.proofs.Lines.{list-short, list-placed, listing-long, listing-damaged, listing-record}
+use Rattle.record_listing.proofs.Spelling.{placed-before}
+use Rattle.record_listing.specs.Listing.{field, newline, linesOf, records, damaged, tooLong}
+use Rattle.record.specs.Answers.{accepted, refused, countedAnswer, entriesAnswer}
+use Rattle.record_bytes.specs.Reading.{readRecord}
+use Rattle.record_listing.proofs.list.Statement.{statement}
+
+returns : tie.Need-returns
+returns c = list-short (now (c .before .before .before .args .bytes)) (now (c .before .before .before .args .out)) (c .if1 .taken)
+
+slice-aggregate-put-text : tie.Need-slice-aggregate-put-text
+slice-aggregate-put-text c = search needs
+
+put-text-requires : tie.Need-put-text-requires
+put-text-requires c κs = search needs
+
+same-length : tie.Need-same-length
+same-length c = search needs
+
+returns-2 : tie.Need-returns-2
+returns-2 c =
+    let s = now (c .before .before .before .before .before .before .before .before .before .args .bytes) in
+    let o = now (c .before .before .before .before .before .before .before .before .before .args .out) in
+    let p = c .before .before .put-text in
+    list-placed s o (p .last .0) tooLong (p .result) (omega arith) (listing-long s (c .before .before .before .before .before .if2 .taken)) (p .ensures)
+
+entries-requires : tie.Need-entries-requires
+entries-requires c κs = search needs
+
+enum-known-counted : tie.Need-enum-known-counted
+enum-known-counted c = search needs
+
+enum-told : tie.Need-enum-told
+enum-told c = search needs
+
+slice-aggregate-put-text-2 : tie.Need-slice-aggregate-put-text-2
+slice-aggregate-put-text-2 c = search needs
+
+put-text-requires-2 : tie.Need-put-text-requires-2
+put-text-requires-2 c κs = search needs
+
+same-length-2 : tie.Need-same-length-2
+same-length-2 c = search needs
+
+returns-3 : tie.Need-returns-3
+returns-3 c =
+    let s = now (c .before .before .before .before .before .before .before .before .before .before .before .before .args .bytes) in
+    let o = now (c .before .before .before .before .before .before .before .before .before .before .before .before .args .out) in
+    let p = c .before .before .put-text2 in
+    let none : refused 7 ≡ entriesAnswer s = sym (ap countedAnswer (c .before .before .before .before .before .enum-told .given .1)) ∙ c .before .before .before .before .before .before .before .entries .ensures .0 in
+    list-placed s o (p .last .0) damaged (p .result) (omega arith) (listing-damaged s (omega arith) none) (p .ensures)
+
+wide4-requires : tie.Need-wide4-requires
+wide4-requires c κs = search needs
+
+put-lines-requires : tie.Need-put-lines-requires
+put-lines-requires c κs =
+    (ap accepted (c .before .wide4 .ensures) ∙ sym (ap countedAnswer (c .before .before .before .counted .given .1)) ∙ c .before .before .before .before .before .entries .ensures .0, omega arith)
+
+wide4-requires-2 : tie.Need-wide4-requires-2
+wide4-requires-2 c κs = search needs
+
+put-field-requires : tie.Need-put-field-requires
+put-field-requires c κs = search needs
+
+slice-aggregate-put-text-3 : tie.Need-slice-aggregate-put-text-3
+slice-aggregate-put-text-3 c = search needs
+
+put-text-requires-3 : tie.Need-put-text-requires-3
+put-text-requires-3 c κs = search needs
+
+same-length-3 : tie.Need-same-length-3
+same-length-3 c = search needs
+
+returns-4 : tie.Need-returns-4
+returns-4 c =
+    let s = now (c .before .before .before .before .before .before .before .before .before .before .before .before .before .before .before .before .before .before .before .before .before .before .before .args .bytes) in
+    let o = now (c .before .before .before .before .before .before .before .before .before .before .before .before .before .before .before .before .before .before .before .before .before .before .before .args .out) in
+    let p1 = c .before .before .before .before .before .before .before .before .before .before .before .before .put-lines in
+    let p2 = c .before .before .before .before .before .before .before .put-field in
+    let p3 = c .before .before .put-text3 in
+    let n = c .before .before .before .before .before .before .before .before .wide42 .result in
+    let whole : accepted n ≡ entriesAnswer s = ap accepted (c .before .before .before .before .before .before .before .before .wide42 .ensures) ∙ sym (ap countedAnswer (c .before .before .before .before .before .before .before .before .before .before .before .before .before .before .before .before .counted .given .1)) ∙ c .before .before .before .before .before .before .before .before .before .before .before .before .before .before .before .before .before .before .entries .ensures .0 in
+    let all : length o ≤ length o = omega arith in
+    let q2 = placed-before o (p1 .last .1 .1 .0) (p2 .last .0) (p2 .result) (p1 .result) (length o) (field n newline) (linesOf (readRecord s)) all (p1 .ensures .0) (p2 .ensures .0) in
+    let q3 = placed-before o (p2 .last .0) (p3 .last .0) (p3 .result) (p2 .result) (length o) records (field n newline ++ linesOf (readRecord s)) all q2 (p3 .ensures) in
+    list-placed s o (p3 .last .0) (records ++ (field n newline ++ linesOf (readRecord s))) (p3 .result) (c .before .before .before .before .before .before .before .before .before .before .before .before .before .before .before .before .before .before .before .before .if1 .left) (listing-record s n (c .before .before .before .before .before .before .before .before .before .before .before .before .before .before .before .before .before .before .before .if2 .left) whole) q3
+
+pub list-spec : {M : Type 1} → statement M
+list-spec =
+    tie.close
+    (tie.spec
+    returns
+    slice-aggregate-put-text
+    put-text-requires
+    same-length
+    returns-2
+    entries-requires
+    enum-known-counted
+    enum-told
+    slice-aggregate-put-text-2
+    put-text-requires-2
+    same-length-2
+    returns-3
+    wide4-requires
+    put-lines-requires
+    wide4-requires-2
+    put-field-requires
+    slice-aggregate-put-text-3
+    put-text-requires-3
+    same-length-3
+    returns-4)

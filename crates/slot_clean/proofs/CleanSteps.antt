@@ -1,0 +1,165 @@
+-- What the code that tells a clean slot asks: the data of a word and its check semi-octets taken from their places, the check semi-octets made anew
+-- and compared, and the slot's answer where every word is the code word over its data.
+-- Assumes nothing.
+use mathlib.Core.Path.{_≡_, refl, sym, ap, _∙_}
+use mathlib.Core.Bool.{Bool, true, false}
+use mathlib.Core.List.{List, [], _∷_, _++_}
+use Prim.Native.Nat.{ℕ, zero, suc, _+_, _*_, _-_, _/_, _%_, _≤_, _<_}
+use native.Mathlib.Omega.{arith}
+use lib.Bits.{bitXor, bitOr, or-add-and, and-le-l, and-le-r}
+use lib.Dec.{eqb}
+use lib.ListN.{length, getD, drop, length-drop, take-append-drop, drop-of-length-le}
+use lib.Seq.{length-take-le, getD-take, getD-drop, drop-cons}
+use borrow.Author.Tests.{eqb-true, eqb-false}
+use borrow.Rule.Slice.PartMut.{putMid}
+use Rattle.laws.specs.Tab.{total, Below}
+use Rattle.laws.proofs.Tab.{getD-tab, tab-is, below-drop}
+use Rattle.laws.proofs.Fill.{Filled, filled-last}
+use Rattle.gf16.specs.Field.{sum}
+use Rattle.gf16.proofs.Laws.{sum-same}
+use Rattle.code_word_laws.specs.Word.{distance}
+use Rattle.code_word_laws.specs.Make.{coded}
+use Rattle.code_word_laws.specs.Register.{poured}
+use Rattle.code_word_laws.specs.Checks.{checkRows, summed}
+use Rattle.slot_laws.specs.Sizes.{InRange, words, wordLength, dataLength}
+use Rattle.slot_laws.specs.Words.{dataWord, signature, placeOf}
+use Rattle.slot_laws.specs.Order.{Data}
+use Rattle.slot_laws.specs.Slot.{codeWord}
+use Rattle.slot_clean.specs.Inner.{wordFrom, checksFrom, dataFrom, AllClean}
+use Rattle.slot_laws.proofs.Sizes.{length-high, checks-fit}
+use Rattle.slot_interleaving.proofs.PlaceSteps.{added-row, summed-word}
+use Rattle.slot_clean.proofs.Unpacking.{length-from, words-from}
+use Rattle.slot_laws.proofs.RoomSteps.{new-data, new-word, same-words-before}
+
+-- ---- a word's check semi-octets and data
+
+-- semi-octet k of word i, taken from its place with the signature's row
+from-at : (size mode : ℕ) (places : List ℕ) (i k p y : ℕ) → k < wordLength size i → p ≡ placeOf size i k → y ≡ signature mode i k
+    → bitXor (getD places p 0) y ≡ getD (wordFrom size mode places i) k 0
+unfolding wordFrom
+from-at size mode places i k p y l e h =
+    added-row (getD places p 0) y (signature mode i k) h
+    ∙ ap (λ (z : ℕ). sum (getD places z 0) (signature mode i k)) e
+    ∙ sym (getD-tab (λ k. sum (getD places (placeOf size i k) 0) (signature mode i k)) (wordLength size i) k l)
+
+module _ (size mode i : ℕ) (places : List ℕ) (range : InRange size mode) (inside : i < words size) where
+  pub data-place : (k : ℕ) → k < dataLength size mode i → 2 * (mode - 1) + k < wordLength size i
+  data-place k l = let f = checks-fit size mode i range inside in omega arith
+
+  pub check-place : (k : ℕ) → k < 2 * (mode - 1) → k < wordLength size i
+  check-place k l = let f = checks-fit size mode i range inside in omega arith
+
+  length-data : length (dataFrom size mode places i) ≡ dataLength size mode i
+  length-data =
+      let f = checks-fit size mode i range inside in
+      length-drop (2 * (mode - 1)) (wordFrom size mode places i)
+      ∙ ap (λ (n : ℕ). n - 2 * (mode - 1)) (length-from size mode places i)
+      ∙ omega arith
+
+  pub length-checks : length (checksFrom size mode places i) ≡ 2 * (mode - 1)
+  length-checks =
+      let f = checks-fit size mode i range inside in
+      length-take-le (2 * (mode - 1)) (wordFrom size mode places i) (omega (arith, length-from size mode places i))
+
+  -- semi-octet k of the check semi-octets, and of the data, taken from its place
+  pub check-at : (k p y : ℕ) → k < 2 * (mode - 1) → p ≡ placeOf size i k → y ≡ signature mode i k
+      → bitXor (getD places p 0) y ≡ getD (checksFrom size mode places i) k 0
+  check-at k p y l e h =
+      from-at size mode places i k p y (check-place k l) e h ∙ sym (getD-take (2 * (mode - 1)) (wordFrom size mode places i) k 0 l)
+
+  pub data-at : (k p y : ℕ) → k < dataLength size mode i → p ≡ placeOf size i (2 * (mode - 1) + k) → y ≡ signature mode i (2 * (mode - 1) + k)
+      → bitXor (getD places p 0) y ≡ getD (dataFrom size mode places i) k 0
+  data-at k p y l e h =
+      from-at size mode places i (2 * (mode - 1) + k) p y (data-place k l) e h ∙ sym (getD-drop (2 * (mode - 1)) (wordFrom size mode places i) k 0)
+
+  pub data-last : (n k : ℕ) (w : List ℕ) → n ≡ dataLength size mode i → Filled (λ k. getD (dataFrom size mode places i) k 0) n k w → n ≤ k
+      → w ≡ dataFrom size mode places i
+  data-last n k w e f l =
+      filled-last (λ k. getD (dataFrom size mode places i) k 0) n k w f l
+      ∙ tab-is (λ k. getD (dataFrom size mode places i) k 0) n (dataFrom size mode places i) (length-data ∙ sym e) (λ k m. refl)
+
+-- ---- the check semi-octets compared
+
+-- where two have no bit together, neither has one
+no-bits : (a b : ℕ) → bitOr a b ≡ 0 → (a ≡ 0) × (b ≡ 0)
+no-bits a b e =
+    let s = or-add-and a b in
+    let l = and-le-l a b in
+    let r = and-le-r a b in
+    (omega arith, omega arith)
+
+-- a digit that is the last check semi-octet still to be compared
+poured-step : (k r : ℕ) (w : List ℕ) → 0 < k → k ≤ length w → getD w (k - 1) 0 ≡ r % 16 → poured k r (drop k w) ≡ poured (k - 1) (r / 16) (drop (k - 1) w)
+unfolding poured
+poured-step zero r w p h e = absurd (omega arith)
+poured-step (suc k) r w p h e =
+    let same : suc k - 1 ≡ k = omega arith in
+    let d : getD w k 0 ≡ r % 16 = rw same at e in
+    rw same (ap (λ (l : List ℕ). poured k (r / 16) l) (ap (λ (x : ℕ). x ∷ drop (suc k) w) (sym d) ∙ sym (drop-cons w k 0 (omega arith))))
+
+-- as far as place k the check semi-octets are the digits, where no bit was found
+abbrev pub Compared : ℕ → ℕ → List ℕ → ℕ → ℕ → ℕ → Type 0
+Compared n r w k rest bits = bits ≡ 0 → poured n r [] ≡ poured k rest (drop k w)
+
+pub compared-first : (n r : ℕ) (w : List ℕ) → length w ≡ n → Compared n r w n r 0
+compared-first n r w l e = ap (λ (x : List ℕ). poured n r x) (sym (drop-of-length-le w {i = n} (omega arith)))
+
+pub compared-next : (n r : ℕ) (w : List ℕ) (k rest bits x : ℕ) → length w ≡ n → k ≤ n → 0 < k → x ≡ getD w (k - 1) 0 → Compared n r w k rest bits
+    → Compared n r w (k - 1) (rest / 16) (bitOr bits (bitXor x (rest % 16)))
+unfolding sum
+compared-next n r w k rest bits x l h p e c z =
+    let b = no-bits bits (bitXor x (rest % 16)) z in
+    c (b .0) ∙ poured-step k rest w p (omega arith) (sym e ∙ sum-same x (rest % 16) (b .1))
+
+pub compared-last : (n r : ℕ) (w : List ℕ) (k rest bits : ℕ) → k ≡ 0 → Compared n r w k rest bits → eqb bits 0 ≡ true → w ≡ poured n r []
+unfolding poured
+compared-last n r w k rest bits e c z = sym (c (eqb-true bits 0 z) ∙ ap (λ (m : ℕ). poured m rest (drop m w)) e)
+
+-- ---- a clean word
+
+pub clean-coded : (size mode i r : ℕ) (places rows w : List ℕ) → InRange size mode → i < words size → Below 16 places → rows ≡ checkRows (distance mode - 1)
+    → w ≡ dataFrom size mode places i → r ≡ summed rows (λ k. getD (dataFrom size mode places i) k 0) (dataLength size mode i)
+    → checksFrom size mode places i ≡ poured (2 * (mode - 1)) r [] → wordFrom size mode places i ≡ coded (distance mode) w
+clean-coded size mode i r places rows w range l b t e s c =
+    let word = wordFrom size mode places i in
+    let info = dataFrom size mode places i in
+    let long = length-data size mode i places range l in
+    let f = checks-fit size mode i range l in
+    let h = length-high size i (range .size-from) in
+    let small = below-drop 16 (2 * (mode - 1)) word (words-from size mode places b .below i l) in
+    let sums : r ≡ summed rows (λ k. getD info k 0) (length info) = s ∙ ap (summed rows (λ k. getD info k 0)) (sym long) in
+    sym (take-append-drop (2 * (mode - 1)) word)
+    ∙ ap (λ (x : List ℕ). x ++ info) c
+    ∙ sym (summed-word mode info (range .mode-from) (range .mode-to) (omega (arith, long)) small rows r t sums)
+    ∙ ap (coded (distance mode)) (sym e)
+
+-- ---- the loop over the words
+
+pub clean-first : (size mode : ℕ) (places info : List ℕ) → AllClean size mode places info 0
+clean-first size mode places info j l = absurd (omega arith)
+
+module _ (size mode i at n e : ℕ) (places old : List ℕ) (range : InRange size mode) (inside : i < words size) (start : at ≡ total (dataLength size mode) i)
+    (given : Data size mode old) (is : n ≡ wordLength size i) (end : e ≡ at + (n - 2 * (mode - 1))) (small : Below 16 places)
+    (last : List ℕ) (taken : last ≡ dataFrom size mode places i) where
+  taken-long : length last ≡ dataLength size mode i
+  taken-long = ap (λ (x : List ℕ). length x) taken ∙ length-data size mode i places range inside
+
+  taken-below : Below 16 last
+  taken-below = rw taken (below-drop 16 (2 * (mode - 1)) (wordFrom size mode places i) (words-from size mode places small .below i inside))
+
+  pub clean-data : Data size mode (putMid at (e - at) old last)
+  clean-data = new-data size mode i at n e old range inside start given is end last taken-long taken-below
+
+  pub clean-next : AllClean size mode places old i → wordFrom size mode places i ≡ coded (distance mode) last
+      → AllClean size mode places (putMid at (e - at) old last) (i + 1)
+  unfolding codeWord
+  clean-next a c j l = go (eqb j i) refl
+    where
+      go : (b : Bool) → eqb j i ≡ b → coded (distance mode) (dataWord size mode (putMid at (e - at) old last) j) ≡ wordFrom size mode places j
+      go true t =
+          rw (eqb-true j i t)
+          (ap (coded (distance mode)) (new-word size mode i at n e old range inside start given is end last taken-long taken-below) ∙ sym c)
+      go false t =
+          let d : (j ≡ i → ⊥) = eqb-false j i t in
+          let k : j < i = omega arith in
+          ap (coded (distance mode)) (same-words-before size mode i at n e old range inside start given is end last taken-long taken-below j k) ∙ a j k

@@ -1,0 +1,3 @@
+-- LAWS
+pub mod Unpacking
+pub mod CleanSteps

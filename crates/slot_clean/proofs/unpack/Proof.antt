@@ -1,0 +1,86 @@
+-- `slot_clean::unpack` meets its contract. The invariant of its loop stands at the head. Assumes nothing.
+use mathlib.Core.Path.{_≡_, refl}
+use Prim.Native.Nat.{_≤_, _-_, _*_, _%_}
+use native.Mathlib.Omega.{arith}
+use lib.ListN.{length, getD, length-set}
+use borrow.Author.Needs.{needs}
+use Rattle.laws.proofs.Fill.{Filled, filled-first}
+use Rattle.slot_laws.specs.Semi.{semi}
+use Rattle.slot_clean.proofs.Unpacking.{unpacked-next, unpacked-last}
+use Rattle.slot_clean.proofs.unpack.Statement.{statement}
+use Rattle.slot_clean.proofs.unpack.Tie as tie
+
+abbrev Inv-loop : tie.InvT-loop
+Inv-loop slot places₀ j₀ places j = (j ≤ length slot) × (length places ≡ length places₀) × Filled (semi slot) (length places₀) (2 * j) places
+
+abbrev μ-loop : tie.MeasureT-loop
+μ-loop slot places₀ j₀ places j = length slot - j
+
+loop-holds : tie.Need-loop-holds Inv-loop μ-loop
+loop-holds c =
+    let a = c .args in
+    (omega arith, refl, filled-first (semi (a .slot .now)) (length (a .places .now)) (a .places .now) refl)
+
+shared-slice-read-b : tie.Need-shared-slice-read-b Inv-loop μ-loop
+shared-slice-read-b c = search needs
+
+mul-places : tie.Need-mul-places Inv-loop μ-loop
+mul-places c = search needs
+
+slice-write-places : tie.Need-slice-write-places Inv-loop μ-loop
+slice-write-places c = search needs
+
+mul-places-2 : tie.Need-mul-places-2 Inv-loop μ-loop
+mul-places-2 c = search needs
+
+add-places : tie.Need-add-places Inv-loop μ-loop
+add-places c = search needs
+
+slice-write-places-2 : tie.Need-slice-write-places-2 Inv-loop μ-loop
+slice-write-places-2 c =
+    let h = c .before .before in
+    let l = length-set (h .loop .places) (2 * h .loop .j) (getD (h .before .args .slot .now) (h .loop .j) 0 % 16) in
+    omega (arith, h .loop .inv .1, h .before .pre .1)
+
+add-j : tie.Need-add-j Inv-loop μ-loop
+add-j c = search needs
+
+loop-less : tie.Need-loop-less Inv-loop μ-loop
+loop-less c = search needs
+
+loop-again : tie.Need-loop-again Inv-loop μ-loop
+loop-again c =
+    let h = c .before .before in
+    let a = h .before .args in
+    let b = c .shared-slice-known .given (h .loop .j) .fits in
+    let g = unpacked-next (a .slot .now) (length (a .places .now)) (h .loop .j) (h .loop .places) (h .loop .inv .2) (omega (arith, h .before .pre .1)) b in
+    (omega arith, g .long, g)
+
+same-length : tie.Need-same-length Inv-loop μ-loop
+same-length c = search needs
+
+returns : tie.Need-returns Inv-loop μ-loop
+returns c =
+    let h = c .before in
+    let a = h .before .args in
+    unpacked-last (a .slot .now) (length (a .places .now)) (2 * h .loop .j) (h .loop .places) (h .before .pre .1)
+    (omega (arith, h .before .pre .1)) (h .loop .inv .2)
+
+pub unpack-spec : {M : Type 1} → statement M
+unpack-spec =
+    tie.close
+    (tie.spec
+    Inv-loop
+    μ-loop
+    loop-holds
+    shared-slice-read-b
+    mul-places
+    slice-write-places
+    mul-places-2
+    add-places
+    slice-write-places-2
+    add-j
+    loop-less
+    loop-again
+    same-length
+    returns)

@@ -1,0 +1,2 @@
+-- SPEC
+pub mod Inner

@@ -1,0 +1,2 @@
+-- LAWS
+pub mod HeadingSteps

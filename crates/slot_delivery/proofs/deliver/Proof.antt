@@ -1,0 +1,94 @@
+-- `slot_delivery::deliver` meets its contract. Assumes nothing.
+use borrow.Author.Needs.{needs}
+use Rattle.slot_delivery.proofs.deliver.Statement.{statement}
+use Rattle.slot_delivery.proofs.deliver.Tie as tie
+use Rattle.slot_delivery.proofs.HeadingSteps.{delivered-frame}
+use Rattle.slot_laws.specs.Sizes.{hash1, hash2}
+use Rattle.slot_ordering.proofs.OrderSteps.{rest-is, frame-fits}
+use Rattle.laws.proofs.Tab.{below-take, below-drop}
+use lib.ListN.{length, drop}
+use Prim.Native.Nat.{_+_, _*_, _-_}
+use native.Mathlib.Omega.{arith}
+use mathlib.Core.Path.{_≡_, refl}
+use borrow.Author.Tests.{not-true, not-false}
+
+first-hash-size-requires : tie.Need-first-hash-size-requires
+first-hash-size-requires c κs = search needs
+
+mul-h : tie.Need-mul-h
+mul-h c = search needs
+
+second-hash-size-requires : tie.Need-second-hash-size-requires
+second-hash-size-requires c κs = search needs
+
+mul-h-2 : tie.Need-mul-h-2
+mul-h-2 c = search needs
+
+add-h : tie.Need-add-h
+add-h c = search needs
+
+matches-requires : tie.Need-matches-requires
+matches-requires c κs = search needs
+
+returns : tie.Need-returns
+returns c =
+    let m = c .before .matches in
+    (m .ensures .fails (not-true (m .result) (c .if1 .taken)), refl)
+
+sub-roll : tie.Need-sub-roll
+sub-roll c = search needs
+
+part-roll-start : tie.Need-part-roll-start
+part-roll-start c = search needs
+
+part-roll-end : tie.Need-part-roll-end
+part-roll-end c = search needs
+
+roll-requires : tie.Need-roll-requires
+roll-requires c κs =
+    let s = c .before .before .before .before .before .before .before .before in
+    let f = c .before .before .before .before .before .first-hash-size in
+    let g = c .before .before .before .before .second-hash-size in
+    let t = s .args .info .now in
+    let h = 2 * f .result + 2 * g .result in
+    let w = frame-fits (s .args .size) (s .args .mode) (s .pre .0) in (
+      rest-is _ h t (omega (arith, s .pre .2 .long, s .pre .3, f .ensures .0, g .ensures .0)),
+      omega (arith, s .pre .3),
+      below-take 16 (length t - h) (drop h t) (omega arith) (below-drop 16 h t (s .pre .2 .below)),
+    )
+
+same-length : tie.Need-same-length
+same-length c = search needs
+
+returns-2 : tie.Need-returns-2
+returns-2 c =
+    let s = c .before .before .before .before .before .before .before .before .before .before .before in
+    let a = s .args in
+    let f = c .before .before .before .before .before .before .before .before .first-hash-size in
+    let g = c .before .before .before .before .before .before .before .second-hash-size in
+    let m = c .before .before .before .before .before .before .matches in
+    let e = c .before .before .before .before .before .if1 .left in
+    let r = c .before .before .roll in
+    let h = 2 * f .result + 2 * g .result in
+    let k : h ≡ 2 * hash1 (a .size) + 2 * hash2 (a .size) (a .mode) = omega (arith, f .ensures .0, g .ensures .0) in (
+      m .ensures .holds (not-false (m .result) e),
+      delivered-frame (a .size) (a .mode) h (a .info .now) (a .frame .now) (r .last .1 .0) (s .pre .3) k (r .ensures),
+    )
+
+pub deliver-spec : {M : Type 1} → statement M
+deliver-spec =
+    tie.close
+    (tie.spec
+    first-hash-size-requires
+    mul-h
+    second-hash-size-requires
+    mul-h-2
+    add-h
+    matches-requires
+    returns
+    sub-roll
+    part-roll-start
+    part-roll-end
+    roll-requires
+    same-length
+    returns-2)

@@ -1,0 +1,29 @@
+-- `slot::hashing::push` meets its contract. Assumes nothing.
+use Rattle.slot_hashing.proofs.HashSteps.{degree-fits, remainder-fits, top-bit, push-is}
+use Rattle.laws.proofs.Digit.{digit-lt}
+use native.Mathlib.Omega.{arith}
+use mathlib.Core.Path.{refl}
+use borrow.Author.Needs.{needs}
+use Rattle.slot_hashing.proofs.push.Statement.{statement}
+use Rattle.slot_hashing.proofs.push.Tie as tie
+
+mul-v : tie.Need-mul-v
+mul-v c = let a = c .args in let f = remainder-fits (a .n) (a .r) (c .pre .1) (c .pre .3) in omega arith
+
+shl-v : tie.Need-shl-v
+shl-v c = search needs
+
+shr-result : tie.Need-shr-result
+shr-result c = search needs
+
+mul-result : tie.Need-mul-result
+mul-result c =
+    let a = c .args in
+    let f = digit-lt _ (a .p) 8388608 (top-bit (a .n) (a .b) (a .r) (c .pre .1) (c .pre .2) (c .pre .3)) (degree-fits (a .p) (a .n) (c .pre .0) (c .pre .1)) in
+    omega arith
+
+returns : tie.Need-returns
+returns c = let a = c .args in push-is (a .p) (a .n) (a .b) (a .r) _ _ (c .pre .0) (c .pre .1) (c .pre .2) (c .pre .3) refl refl
+
+pub push-spec : {M : Type 1} → statement M
+push-spec = tie.close (tie.spec mul-v shl-v shr-result mul-result returns)

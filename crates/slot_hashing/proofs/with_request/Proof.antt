@@ -1,0 +1,16 @@
+-- `slot::hashing::with_request` meets its contract. Assumes nothing.
+use borrow.Author.Needs.{needs}
+use Rattle.slot_hashing.proofs.with_request.Statement.{statement}
+use Rattle.slot_hashing.proofs.with_request.Tie as tie
+
+push-requires : tie.Need-push-requires
+push-requires c κs = search needs
+
+push-requires-2 : tie.Need-push-requires-2
+push-requires-2 c κs = search needs
+
+returns : tie.Need-returns
+returns c = (cc, c .push2 .ensures .1)
+
+pub with-request-spec : {M : Type 1} → statement M
+with-request-spec = tie.close (tie.spec push-requires push-requires-2 returns)

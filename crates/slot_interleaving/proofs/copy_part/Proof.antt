@@ -1,0 +1,68 @@
+-- `slot::interleaving::copy_part` meets its contract. The invariant of its loop stands at the head. Assumes nothing.
+use Rattle.slot_interleaving.proofs.PlaceSteps.{copy-is}
+use Rattle.laws.proofs.Fill.{Filled, filled-first, filled-next}
+use lib.ListN.{length, getD}
+use native.Mathlib.Omega.{arith}
+use mathlib.Core.Path.{_≡_, refl}
+use Prim.Native.Nat.{ℕ, _≤_, _-_, _+_}
+use borrow.Author.Needs.{needs}
+use Rattle.slot_interleaving.proofs.copy_part.Statement.{statement}
+use Rattle.slot_interleaving.proofs.copy_part.Tie as tie
+
+abbrev Inv-loop : tie.InvT-loop
+Inv-loop from at out₀ k₀ out k = (k ≤ length out₀) × (length out ≡ length out₀) × Filled (λ (j : ℕ). getD from (at + j) 0) (length out₀) k out
+
+abbrev μ-loop : tie.MeasureT-loop
+μ-loop from at out₀ k₀ out k = length out₀ - k
+
+loop-holds : tie.Need-loop-holds Inv-loop μ-loop
+loop-holds c =
+    let a = c .args in
+    (omega arith, refl, filled-first (λ (j : ℕ). getD (a .from .now) (a .at + j) 0) (length (a .out .now)) (a .out .now) refl)
+
+add-out : tie.Need-add-out Inv-loop μ-loop
+add-out c = search needs
+
+shared-slice-read-out : tie.Need-shared-slice-read-out Inv-loop μ-loop
+shared-slice-read-out c = search needs
+
+slice-write-out : tie.Need-slice-write-out Inv-loop μ-loop
+slice-write-out c = search needs
+
+add-k : tie.Need-add-k Inv-loop μ-loop
+add-k c = search needs
+
+loop-less : tie.Need-loop-less Inv-loop μ-loop
+loop-less c = search needs
+
+loop-again : tie.Need-loop-again Inv-loop μ-loop
+loop-again c =
+    let h = c .before .before in
+    let a = h .before .args in
+    let g = filled-next (λ (j : ℕ). getD (a .from .now) (a .at + j) 0) (length (a .out .now)) (h .loop .k) (h .loop .out) (getD (a .from .now) (a .at + h .loop .k) 0) (h .loop .inv .2) (omega arith) refl in
+    (omega arith, g .long, g)
+
+same-length : tie.Need-same-length Inv-loop μ-loop
+same-length c = c .before .loop .inv .1
+
+returns : tie.Need-returns Inv-loop μ-loop
+returns c =
+    let h = c .before in
+    let a = h .before .args in
+    copy-is (a .from .now) (a .at) (length (a .out .now)) (h .loop .k) (h .loop .out) (omega arith) (omega arith) (h .loop .inv .2)
+
+pub copy-part-spec : {M : Type 1} → statement M
+copy-part-spec =
+    tie.close
+    (tie.spec
+    Inv-loop
+    μ-loop
+    loop-holds
+    add-out
+    shared-slice-read-out
+    slice-write-out
+    add-k
+    loop-less
+    loop-again
+    same-length
+    returns)

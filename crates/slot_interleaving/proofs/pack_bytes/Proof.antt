@@ -1,0 +1,96 @@
+-- `slot::interleaving::pack_bytes` meets its contract. The invariant of its loop stands at the head. Assumes nothing.
+use Rattle.slot_interleaving.proofs.PlaceSteps.{pack-is}
+use Rattle.laws.proofs.Fill.{Filled, filled-first, filled-next}
+use lib.ListN.{length, getD}
+use native.Mathlib.Omega.{arith}
+use mathlib.Core.Path.{_≡_, refl}
+use Prim.Native.Nat.{ℕ, _≤_, _-_, _+_, _*_}
+use borrow.Author.Needs.{needs}
+use Rattle.slot_interleaving.proofs.pack_bytes.Statement.{statement}
+use Rattle.slot_interleaving.proofs.pack_bytes.Tie as tie
+
+abbrev Inv-loop : tie.InvT-loop
+Inv-loop places slot₀ j₀ slot j = (j ≤ length slot₀) × (length slot ≡ length slot₀) × Filled (λ (j : ℕ). getD places (2 * j) 0 + 16 * getD places (2 * j + 1) 0) (length slot₀) j slot
+
+abbrev μ-loop : tie.MeasureT-loop
+μ-loop places slot₀ j₀ slot j = length slot₀ - j
+
+loop-holds : tie.Need-loop-holds Inv-loop μ-loop
+loop-holds c =
+    let a = c .args in
+    (omega arith, refl, filled-first (λ (j : ℕ). getD (a .places .now) (2 * j) 0 + 16 * getD (a .places .now) (2 * j + 1) 0) (length (a .slot .now)) (a .slot .now) refl)
+
+mul-slot : tie.Need-mul-slot Inv-loop μ-loop
+mul-slot c = search needs
+
+shared-slice-read-slot : tie.Need-shared-slice-read-slot Inv-loop μ-loop
+shared-slice-read-slot c = search needs
+
+mul-slot-2 : tie.Need-mul-slot-2 Inv-loop μ-loop
+mul-slot-2 c = search needs
+
+add-slot : tie.Need-add-slot Inv-loop μ-loop
+add-slot c = search needs
+
+shared-slice-read-slot-2 : tie.Need-shared-slice-read-slot-2 Inv-loop μ-loop
+shared-slice-read-slot-2 c = search needs
+
+mul-slot-3 : tie.Need-mul-slot-3 Inv-loop μ-loop
+mul-slot-3 c =
+    let h = c .before .before .before in
+    let b = h .before .pre .2 (2 * h .loop .j + 1) (omega arith) in
+    omega arith
+
+add-slot-2 : tie.Need-add-slot-2 Inv-loop μ-loop
+add-slot-2 c =
+    let h = c .before .before .before in
+    let b = h .before .pre .2 (2 * h .loop .j + 1) (omega arith) in
+    let d = h .before .pre .2 (2 * h .loop .j) (omega arith) in
+    omega arith
+
+slice-write-slot : tie.Need-slice-write-slot Inv-loop μ-loop
+slice-write-slot c = search needs
+
+add-j : tie.Need-add-j Inv-loop μ-loop
+add-j c = search needs
+
+loop-less : tie.Need-loop-less Inv-loop μ-loop
+loop-less c = search needs
+
+loop-again : tie.Need-loop-again Inv-loop μ-loop
+loop-again c =
+    let h = c .before .before .before in
+    let a = h .before .args in
+    let f = a .places .now in
+    let g = filled-next (λ (j : ℕ). getD f (2 * j) 0 + 16 * getD f (2 * j + 1) 0) (length (a .slot .now)) (h .loop .j) (h .loop .slot) (getD f (2 * h .loop .j) 0 + 16 * getD f (2 * h .loop .j + 1) 0) (h .loop .inv .2) (omega arith) refl in
+    (omega arith, g .long, g)
+
+same-length : tie.Need-same-length Inv-loop μ-loop
+same-length c = c .before .loop .inv .1
+
+returns : tie.Need-returns Inv-loop μ-loop
+returns c =
+    let h = c .before in
+    let a = h .before .args in
+    pack-is (λ (p : ℕ). getD (a .places .now) p 0) (length (a .slot .now)) (h .loop .j) (h .loop .slot) (omega arith) (h .loop .inv .2)
+
+pub pack-bytes-spec : {M : Type 1} → statement M
+pack-bytes-spec =
+    tie.close
+    (tie.spec
+    Inv-loop
+    μ-loop
+    loop-holds
+    mul-slot
+    shared-slice-read-slot
+    mul-slot-2
+    add-slot
+    shared-slice-read-slot-2
+    mul-slot-3
+    add-slot-2
+    slice-write-slot
+    add-j
+    loop-less
+    loop-again
+    same-length
+    returns)

@@ -1,0 +1,44 @@
+-- `slot::interleaving::place_word` meets its contract. Assumes nothing.
+use Rattle.slot_interleaving.proofs.PlaceSteps.{word-scattered}
+use borrow.Author.Needs.{needs}
+use Rattle.slot_interleaving.proofs.place_word.Statement.{statement}
+use Rattle.slot_interleaving.proofs.place_word.Tie as tie
+
+signature-row-requires : tie.Need-signature-row-requires
+signature-row-requires c κs = search needs
+
+slice-aggregate-scatter-data : tie.Need-slice-aggregate-scatter-data
+slice-aggregate-scatter-data c = search needs
+
+scatter-data-requires : tie.Need-scatter-data-requires
+scatter-data-requires c κs = search needs
+
+slice-aggregate-scatter-checks : tie.Need-slice-aggregate-scatter-checks
+slice-aggregate-scatter-checks c = search needs
+
+scatter-checks-requires : tie.Need-scatter-checks-requires
+scatter-checks-requires c κs = search needs
+
+same-length : tie.Need-same-length
+same-length c = search needs
+
+returns : tie.Need-returns
+returns c =
+    let s = c .before .before .before .before .before .before .before .before .before .before .before .before .before in
+    let d = c .before .before .before .before .before .before .before .scatter-data in
+    let k = c .before .before .scatter-checks in
+    let a = s .args in
+    word-scattered (a .size) (a .mode) (a .i) (d .result) (a .rows .now) (a .info .now) (a .places .now) (d .last .1 .1 .1 .1 .1 .1 .0) (k .last .1 .1 .1 .1 .1 .0)
+    (s .pre .0) (s .pre .1) (s .pre .2) (s .pre .3) (s .pre .4) (d .ensures .0) (d .ensures .1) (k .ensures)
+
+pub place-word-spec : {M : Type 1} → statement M
+place-word-spec =
+    tie.close
+    (tie.spec
+    signature-row-requires
+    slice-aggregate-scatter-data
+    scatter-data-requires
+    slice-aggregate-scatter-checks
+    scatter-checks-requires
+    same-length
+    returns)

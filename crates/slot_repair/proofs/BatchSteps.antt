@@ -1,0 +1,341 @@
+-- What the code that corrects a slot's words all at once asks: the words one after the other as received, what correcting them in one call leaves
+-- of each, their data gathered, and the slot's answer from that.
+-- Assumes nothing.
+use mathlib.Core.Path.{_≡_, refl, sym, ap, ap₂, _∙_, subst}
+use mathlib.Core.Bool.{Bool, true, false}
+use mathlib.Core.List.{List, [], _∷_, _++_, append-assoc}
+use Prim.Native.Nat.{ℕ, zero, suc, _+_, _*_, _-_, _/_, _%_, _≤_, _<_}
+use native.Mathlib.Omega.{arith}
+use native.Mathlib.Nat.{suc-mul, div-add-mod', mod-lt}
+use native.Mathlib.Numerals.{add-one}
+use lib.Arith.{digits-div}
+use lib.Dec.{eqb, ltb}
+use lib.ListN.{length, getD, take, drop, length-append, length-drop}
+use lib.Seq.{length-take-le, take-all, take-at, drop-drop}
+use borrow.Author.Tests.{eqb-true, eqb-false, ltb-true, ltb-false}
+use borrow.Rule.Slice.PartMut.{midOf, putMid, same-len-mid}
+use Rattle.laws.specs.Tab.{total, pick, Below}
+use Rattle.laws.proofs.Tab.{total-same, total-next, total-none, total-up, below-take, below-drop}
+use Rattle.laws.proofs.Spread.{share}
+use Rattle.code_word_laws.specs.Word.{Fits, apart, distance}
+use Rattle.code_word_laws.specs.Make.{coded}
+use Rattle.code_word_laws.specs.Correct.{Near, Mended, lengthAt, startAt, wordAt, Batch, AllCorrected}
+use Rattle.code_word.specs.Correct.{CorrectsEach}
+use Rattle.code_word_laws.proofs.Coded.{coded-only}
+use Rattle.slot_laws.specs.Sizes.{InRange, words, wordLength, dataLength}
+use Rattle.slot_laws.specs.Words.{piece, dataWord}
+use Rattle.slot_laws.specs.Order.{Data}
+use Rattle.slot_laws.specs.Slot.{codeWord, wordIn}
+use Rattle.slot_clean.specs.Inner.{unpacked, wordFrom}
+use Rattle.slot_repair.specs.Inner.{AllArrived, GatheredTo, IsGathered, IsRepairFrom}
+use Rattle.slot_repair.specs.declared.Outcome.{Outcome}
+use Rattle.slot_repair.specs.declared.Outcome.the-variants.{Repaired, Beyond}
+use Rattle.slot_laws.proofs.Sizes.{words-low, length-share, lengths, length-low, length-high, checks-fit}
+use Rattle.slot_laws.proofs.Semi.{semi-octets-of, below-of}
+use Rattle.slot_laws.proofs.Words.{joined, below-joined, length-piece, below-piece, joined-piece, piece-joined}
+use Rattle.slot_laws.proofs.Slot.{words-in}
+use Rattle.slot_laws.proofs.RoomSteps.{room-is, new-data, new-word, same-words-before}
+use Rattle.slot_clean.proofs.Unpacking.{length-from, words-from, word-from}
+
+-- ---- the lengths and the places of the words in one row
+
+-- semi-octets dealt out as evenly as can be, the longer words first: the shares
+share-at : (t n i : ℕ) → i < n → share t n i ≡ lengthAt t n i
+unfolding share
+share-at t n i h = go (ltb i (t % n)) refl
+  where
+    p : 0 < n
+    p = omega arith
+
+    go : (b : Bool) → ltb i (t % n) ≡ b → (t + (n - 1 - i)) / n ≡ pick b (t / n + 1) (t / n)
+    go true e =
+        let d = div-add-mod' t n in
+        let r = mod-lt t p in
+        let l = ltb-true i (t % n) e in
+        let s = suc-mul (t / n) n in
+        let a : t + (n - 1 - i) ≡ suc (t / n) * n + (t % n - i - 1) = omega arith in
+        let u : t % n - i - 1 < n = omega arith in
+        ap (λ (x : ℕ). x / n) a ∙ digits-div (suc (t / n)) u ∙ sym (add-one (t / n))
+    go false e =
+        let d = div-add-mod' t n in
+        let r = mod-lt t p in
+        let l = ltb-false i (t % n) e in
+        let a : t + (n - 1 - i) ≡ t / n * n + (t % n + (n - 1 - i)) = omega arith in
+        let u : t % n + (n - 1 - i) < n = omega arith in
+        ap (λ (x : ℕ). x / n) a ∙ digits-div (t / n) u
+
+-- .. which A.8 gives
+length-at : (size i : ℕ) → 40 ≤ size → i < words size → lengthAt (2 * size) (words size) i ≡ wordLength size i
+length-at size i h l = sym (length-share size i h l ∙ share-at (2 * size) (words size) i l)
+
+start-at : (size i : ℕ) → 40 ≤ size → i ≤ words size → startAt (2 * size) (words size) i ≡ total (wordLength size) i
+start-at size zero h l = sym (total-none (wordLength size))
+start-at size (suc i) h l =
+    ap₂ (λ (x y : ℕ). x + y) (start-at size i h (omega arith)) (length-at size i h (omega arith)) ∙ sym (total-next (wordLength size) i)
+
+word-at : (size i n : ℕ) (all : List ℕ) → 40 ≤ size → i < words size → length all ≡ 2 * size → n ≡ words size
+    → wordAt n i all ≡ piece (wordLength size) all i
+unfolding piece
+word-at size i n all h l e k =
+    ap₂ (λ (x y : ℕ). take (lengthAt x y i) (drop (startAt x y i) all)) e k
+    ∙ ap₂ (λ (x y : ℕ). take x (drop y all)) (length-at size i h l) (start-at size i h (omega arith))
+
+-- where the next word starts
+pub next-from : (size i from n : ℕ) → from ≡ total (wordLength size) i → n ≡ wordLength size i → from + n ≡ total (wordLength size) (i + 1)
+next-from size i from n e l =
+    ap₂ (λ (x y : ℕ). x + y) e l ∙ sym (total-next (wordLength size) i) ∙ ap (total (wordLength size)) (sym (add-one i))
+
+-- ---- the words as received, one after the other
+
+-- the first i words stand in front
+pub record ArrivedTo (size mode : ℕ) (places : List ℕ) (i at : ℕ) (all : List ℕ) : Type 0 where
+  pub place : at ≡ total (wordLength size) i
+  pub long : length all ≡ 2 * size
+  pub front : take at all ≡ joined (wordFrom size mode places) i
+
+pub arrived-none : (size mode : ℕ) (places all : List ℕ) → length all ≡ 2 * size → ArrivedTo size mode places 0 0 all
+unfolding joined
+arrived-none size mode places all l = record { place = sym (total-none (wordLength size)); long = l; front = refl }
+
+two-in-front : (a b : ℕ) (xs ys zs : List ℕ) → length xs ≡ a → length ys ≡ b → take (a + b) (xs ++ (ys ++ zs)) ≡ xs ++ ys
+two-in-front a b xs ys zs e f =
+    ap (take (a + b)) (sym (append-assoc xs ys zs)) ∙ take-at (xs ++ ys) zs (a + b) (length-append xs ys ∙ ap₂ (λ (x y : ℕ). x + y) e f)
+
+module _ (size mode i at n e : ℕ) (places all : List ℕ) (range : InRange size mode) (inside : i < words size) (arrived : ArrivedTo size mode places i at all)
+    (long : n ≡ wordLength size i) (end : e ≡ at + n) where
+  pub arrives-end : e ≤ 2 * size
+  arrives-end =
+      let u = total-up (wordLength size) (suc i) (words size) inside in
+      let t = total-next (wordLength size) i in
+      let s = lengths size (range .size-from) in
+      let p = arrived .place in
+      omega arith
+
+  pub arrives-room : length (midOf at (e - at) all) ≡ wordLength size i
+  arrives-room =
+      let d = length-drop at all in
+      let b = arrives-end in
+      let l = arrived .long in
+      length-take-le (e - at) (drop at all) (omega arith) ∙ omega arith
+
+  pub arrived-one : (last : List ℕ) → last ≡ wordFrom size mode places i → ArrivedTo size mode places (i + 1) e (putMid at (e - at) all last)
+  unfolding joined
+  arrived-one last is =
+      let k : length last ≡ wordLength size i = ap (λ (x : List ℕ). length x) is ∙ length-from size mode places i in
+      let b = arrives-end in
+      let l = arrived .long in
+      record {
+        place = end ∙ next-from size i at n (arrived .place) long;
+        long = same-len-mid at (e - at) all last (k ∙ sym arrives-room) ∙ arrived .long;
+        front =
+            ap (λ (x : ℕ). take x (putMid at (e - at) all last)) end
+            ∙ two-in-front at n (take at all) last (drop (e - at) (drop at all)) (length-take-le at all (omega arith)) (k ∙ sym long)
+            ∙ ap₂ (λ (x y : List ℕ). x ++ y) (arrived .front) is
+            ∙ ap (joined (wordFrom size mode places)) (sym (add-one i));
+      }
+
+pub arrived-all : (size mode i at : ℕ) (places all : List ℕ) → InRange size mode → Below 16 places → i ≡ words size → ArrivedTo size mode places i at all
+    → AllArrived size mode places all
+arrived-all size mode i at places all r b e k =
+    let w = words-from size mode places b in
+    let t : at ≡ 2 * size = k .place ∙ ap (total (wordLength size)) e ∙ lengths size (r .size-from) in
+    let l = k .long in
+    let g : all ≡ joined (wordFrom size mode places) (words size) =
+    sym (take-all at all (omega arith)) ∙ k .front ∙ ap (joined (wordFrom size mode places)) e in
+    record {
+      long = k .long;
+      below = rw g (below-joined 16 (wordFrom size mode places) (words size) (omega arith) (λ i l. w .below i l));
+      each = λ i l.
+          ap (λ (x : List ℕ). piece (wordLength size) x i) g
+          ∙ piece-joined (wordFrom size mode places) (wordLength size) (words size) i l (λ j m. w .long j m);
+    }
+
+-- ---- all words corrected in one call
+
+-- what is left of each word, and its count
+pub record Answered (size mode : ℕ) (places all counts : List ℕ) : Type 0 where
+  pub long : length all ≡ 2 * size
+  pub below : Below 16 all
+  pub many : length counts ≡ words size
+  pub each : (i : ℕ) → i < words size → Mended mode (wordFrom size mode places i) (piece (wordLength size) all i) (getD counts i 0)
+
+module _ (size mode : ℕ) (places old room : List ℕ) (range : InRange size mode) (arrived : AllArrived size mode places old)
+    (some : length room ≡ words size) where
+  batch : Batch mode old room
+  batch = record {
+    some = omega (arith, some, words-low size (range .size-from));
+    fits = λ i l.
+        let k : i < words size = omega (arith, some) in
+        let lo = length-low size i (range .size-from) k in
+        let hi = length-high size i (range .size-from) in
+        subst (λ (x : ℕ). Fits mode x)
+        (sym (ap₂ (λ (x y : ℕ). lengthAt x y i) (arrived .long) some ∙ length-at size i (range .size-from) k))
+        (record { mode-from = range .mode-from; mode-to = range .mode-to; checks = omega (arith, range .mode-to); most = omega arith });
+    semi-octets = semi-octets-of old (arrived .below);
+  }
+
+  each-answered : (new counts : List ℕ) (number : ℕ) → CorrectsEach mode old room new counts number → AllCorrected mode old room new counts
+  each-answered new counts zero c = c
+  each-answered new counts (suc zero) c = absurd (c .unfit batch)
+  each-answered new counts (suc (suc n)) c = absurd c
+
+  module _ (new counts : List ℕ) (corrected : AllCorrected mode old room new counts) where
+    each-mended : (i : ℕ) → i < words size → Mended mode (wordFrom size mode places i) (piece (wordLength size) new i) (getD counts i 0)
+    each-mended i l =
+        let m = corrected .as-many ∙ some in
+        let a = word-at size i (length counts) old (range .size-from) l (arrived .long) m ∙ arrived .each i l in
+        let b = word-at size i (length counts) new (range .size-from) l (corrected .as-long ∙ arrived .long) m in
+        rw (a, b) at (corrected .each i (omega (arith, m)))
+
+    mended-below : (i : ℕ) → i < words size → (b : Bool) → ltb (getD counts i 0) mode ≡ b → Below 16 (piece (wordLength size) new i)
+    mended-below i l true e = below-of (piece (wordLength size) new i) (each-mended i l .found (ltb-true (getD counts i 0) mode e) .semi-octets)
+    mended-below i l false e =
+        let k = each-mended i l .kept (ltb-false (getD counts i 0) mode e) ∙ sym (arrived .each i l) in
+        rw k (below-piece 16 (wordLength size) old i (omega arith) (arrived .below))
+
+  pub answered : (new counts : List ℕ) (number : ℕ) → CorrectsEach mode old room new counts number → Answered size mode places new counts
+  answered new counts number c =
+      let a = each-answered new counts number c in
+      let l : length new ≡ 2 * size = a .as-long ∙ arrived .long in
+      let j : new ≡ joined (piece (wordLength size) new) (words size) =
+      sym (take-all (total (wordLength size) (words size)) new (omega (arith, lengths size (range .size-from))))
+      ∙ sym (joined-piece (wordLength size) new (words size)) in
+      record {
+        long = l;
+        below =
+            subst (λ (x : List ℕ). Below 16 x) (sym j)
+            (below-joined 16 (piece (wordLength size) new) (words size) (omega arith) (λ i k. mended-below new counts a i k (ltb (getD counts i 0) mode) refl));
+        many = a .as-many ∙ some;
+        each = λ i k. each-mended new counts a i k;
+      }
+
+-- ---- the data of a word put where they belong
+
+-- what is behind the first c of the first n
+behind-front : (c m n : ℕ) (xs : List ℕ) → n ≡ c + m → take m (drop c xs) ≡ drop c (take n xs)
+behind-front zero m n xs e = let k : m ≡ n = omega arith in ap (λ (x : ℕ). take x xs) k
+behind-front (suc c) m zero xs e = absurd (omega arith)
+behind-front (suc c) zero (suc n) [] e = refl
+behind-front (suc c) (suc m) (suc n) [] e = refl
+behind-front (suc c) m (suc n) (x ∷ xs) e = behind-front c m n xs (omega arith)
+
+module _ (size mode i at n e : ℕ) (old : List ℕ) (range : InRange size mode) (inside : i < words size) (start : at ≡ total (dataLength size mode) i)
+    (given : Data size mode old) (is : n ≡ wordLength size i) (end : e ≡ at + (n - 2 * (mode - 1))) where
+  room : length (midOf at (e - at) old) ≡ dataLength size mode i
+  room = room-is size mode i at n e old range inside start given is end
+
+  module _ (from : ℕ) (all counts : List ℕ) (small : Below 16 all) (from-is : from ≡ total (wordLength size) i) (long : length all ≡ 2 * size) where
+    ends-in : total (wordLength size) (suc i) ≤ length all
+    ends-in =
+        let u = total-up (wordLength size) (suc i) (words size) inside in
+        omega (arith, lengths size (range .size-from), long)
+
+    pub take-fits : from + 2 * (mode - 1) + length (midOf at (e - at) old) ≤ length all
+    take-fits =
+        let r = room in
+        let f = checks-fit size mode i range inside in
+        let t = total-next (wordLength size) i in
+        let b = ends-in in
+        omega arith
+
+    abbrev word : List ℕ
+    word = piece (wordLength size) all i
+
+    word-long : length word ≡ wordLength size i
+    word-long = length-piece (wordLength size) all i ends-in
+
+    module _ (last : List ℕ) (copied : last ≡ take (length (midOf at (e - at) old)) (drop (from + 2 * (mode - 1)) all)) where
+      last-is : last ≡ drop (2 * (mode - 1)) word
+      unfolding piece
+      last-is =
+          let f = checks-fit size mode i range inside in
+          let k : wordLength size i ≡ 2 * (mode - 1) + dataLength size mode i = omega arith in
+          copied
+          ∙ ap₂ (λ (x : ℕ) (y : List ℕ). take x y) room (sym (drop-drop (2 * (mode - 1)) from all))
+          ∙ behind-front (2 * (mode - 1)) (dataLength size mode i) (wordLength size i) (drop from all) k
+          ∙ ap (λ (y : ℕ). drop (2 * (mode - 1)) (take (wordLength size i) (drop y all))) from-is
+
+      last-long : length last ≡ dataLength size mode i
+      last-long =
+          let f = checks-fit size mode i range inside in
+          let d = length-drop (2 * (mode - 1)) word in
+          ap (λ (s : List ℕ). length s) last-is ∙ d ∙ omega (arith, word-long)
+
+      below-last : Below 16 last
+      unfolding piece
+      below-last = rw last-is (below-drop 16 (2 * (mode - 1)) word (below-take 16 (wordLength size i) (drop (total (wordLength size) i) all) (omega arith) (below-drop 16 (total (wordLength size) i) all small)))
+
+      pub gathered-next : (sum count : ℕ) → GatheredTo size mode all counts old i sum → count ≡ getD counts i 0 → count < mode
+          → GatheredTo size mode all counts (putMid at (e - at) old last) (i + 1) (sum + count)
+      gathered-next sum count g c l = record {
+        given = new-data size mode i at n e old range inside start given is end last last-long below-last;
+        each = λ j h. each-next j h (eqb j i) refl;
+        few = λ j h. few-next j h (eqb j i) refl;
+        counted =
+            ap₂ (λ (x y : ℕ). x + y) (g .counted) c
+            ∙ sym (total-next (λ j. getD counts j 0) i)
+            ∙ ap (total (λ j. getD counts j 0)) (sym (add-one i));
+      }
+        where
+          each-next : (j : ℕ) → j < i + 1 → (b : Bool) → eqb j i ≡ b → dataWord size mode (putMid at (e - at) old last) j ≡ drop (2 * (mode - 1)) (piece (wordLength size) all j)
+          each-next j h true t = rw (eqb-true j i t) (new-word size mode i at n e old range inside start given is end last last-long below-last ∙ last-is)
+          each-next j h false t =
+              let d : (j ≡ i → ⊥) = eqb-false j i t in
+              let k : j < i = omega arith in
+              same-words-before size mode i at n e old range inside start given is end last last-long below-last j k ∙ g .each j k
+
+          few-next : (j : ℕ) → j < i + 1 → (b : Bool) → eqb j i ≡ b → getD counts j 0 < mode
+          few-next j h true t = rw (eqb-true j i t) (rw c at l)
+          few-next j h false t = let d : (j ≡ i → ⊥) = eqb-false j i t in g .few j (omega arith)
+
+pub gathered-first : (size mode : ℕ) (all counts info : List ℕ) → Data size mode info → GatheredTo size mode all counts info 0 0
+gathered-first size mode all counts info d = record {
+  given = d;
+  each = λ j h. absurd (omega arith);
+  few = λ j h. absurd (omega arith);
+  counted = sym (total-none (λ j. getD counts j 0));
+}
+
+-- ---- the slot's answer
+
+-- a valid word is the code word over its data
+code-of : (size mode i : ℕ) (slot info word : List ℕ) → InRange size mode → i < words size → Near mode (wordIn size mode slot i) word
+    → dataWord size mode info i ≡ drop (2 * (mode - 1)) word → codeWord size mode info i ≡ word
+unfolding codeWord
+code-of size mode i slot info word r l n h =
+    let long : length word ≡ wordLength size i = n .long ∙ words-in size mode slot r .long i l in
+    let d : 2 * mode - 1 - 1 ≡ 2 * (mode - 1) = omega arith in
+    let f = checks-fit size mode i r l in
+    let t = length-high size i (r .size-from) in
+    let k = length-drop (2 * mode - 1 - 1) word in
+    let w : dataWord size mode info i ≡ drop (2 * mode - 1 - 1) word = rw d h in
+    let s = semi-octets-of (drop (2 * mode - 1 - 1) word) (below-drop 16 (2 * mode - 1 - 1) word (below-of word (n .semi-octets))) in
+    ap (coded (distance mode)) w
+    ∙ sym (coded-only (distance mode) (drop (2 * mode - 1 - 1) word) word (omega (arith, r .mode-from)) (omega (arith, long)) s
+    (record { semi-octets = n .semi-octets; long = long ∙ omega (arith, long); holds = refl; valid = n .valid }))
+
+-- .. of the slot that was unpacked
+each-of : (size mode : ℕ) (slot places all counts : List ℕ) → InRange size mode → Answered size mode places all counts
+    → length slot ≡ size → places ≡ unpacked slot
+    → (j : ℕ) → j < words size → Mended mode (wordIn size mode slot j) (piece (wordLength size) all j) (getD counts j 0)
+each-of size mode slot places all counts r a e p j l =
+    subst (λ (w : List ℕ). Mended mode w (piece (wordLength size) all j) (getD counts j 0)) (word-from size mode slot places j (r .size-from) e p) (a .each j l)
+
+pub repaired : (size mode : ℕ) (places all counts info : List ℕ) (r : Outcome) → InRange size mode → Answered size mode places all counts
+    → IsGathered size mode all counts info r → IsRepairFrom size mode places info r
+repaired size mode places all counts info (Repaired n) r a g slot e p =
+    let each = each-of size mode slot places all counts r a e p in
+    let near : (j : ℕ) → j < words size → Near mode (wordIn size mode slot j) (piece (wordLength size) all j) = λ j l. each j l .found (g .few j l) in
+    let code : (j : ℕ) → j < words size → codeWord size mode info j ≡ piece (wordLength size) all j =
+    λ j l. code-of size mode j slot info (piece (wordLength size) all j) r l (near j l) (g .each j l) in
+    record {
+      given = g .given;
+      near = λ j l. rw (code j l) (near j l);
+      counted =
+          g .counted
+          ∙ total-same (λ j. getD counts j 0) (λ j. apart (wordIn size mode slot j) (codeWord size mode info j)) (words size)
+          (λ j l. each j l .counted (g .few j l) ∙ ap (apart (wordIn size mode slot j)) (sym (code j l)));
+    }
+repaired size mode places all counts info Beyond r a g slot e p =
+    let each = each-of size mode slot places all counts r a e p in
+    record { word = g .word; inside = g .inside; none = each (g .word) (g .inside) .none (g .none) }

@@ -1,0 +1,3 @@
+-- LAWS
+pub mod ReceiveSteps
+pub mod BatchSteps

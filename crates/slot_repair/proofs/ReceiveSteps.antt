@@ -1,0 +1,100 @@
+-- What the code of correcting a slot asks: a word received, and the answer from all of them, corrected or clean.
+-- Assumes nothing.
+use mathlib.Core.Path.{_≡_, sym, ap, _∙_}
+use mathlib.Core.List.{List}
+use Prim.Native.Nat.{ℕ, _+_, _-_, _≤_, _<_, zero, suc}
+use native.Mathlib.Omega.{arith}
+use lib.Bits.{bitXor}
+use lib.ListN.{length, getD, set}
+use Rattle.laws.specs.Tab.{tab, total}
+use Rattle.laws.proofs.Tab.{total-same, total-next, total-none}
+use Rattle.laws.proofs.Fill.{Filled, filled-next, filled-last}
+use Rattle.gf16.specs.Field.{sum}
+use Rattle.code_word_laws.specs.Word.{apart}
+use Rattle.slot_laws.specs.Sizes.{InRange, words, wordLength}
+use Rattle.slot_laws.specs.Semi.{semi}
+use Rattle.slot_laws.specs.Words.{signature, placeOf}
+use Rattle.slot_laws.specs.Order.{Data}
+use Rattle.slot_laws.specs.Slot.{codeWord, slotWith, wordIn}
+use Rattle.slot_laws.specs.Changes.{changes}
+use Rattle.slot_laws.specs.Corrected.{Corrected}
+use Rattle.slot_clean.specs.Inner.{unpacked, wordFrom, AllClean}
+use Rattle.slot_repair.specs.Inner.{MendedTo}
+use Rattle.slot_laws.proofs.Places.{changes-words}
+use Rattle.slot_laws.proofs.Slot.{word-slot, bytes-with, code-word}
+use Rattle.slot_interleaving.proofs.PlaceSteps.{added-row}
+use Rattle.code_word_laws.proofs.Coded.{apart-front}
+use Rattle.slot_clean.proofs.Unpacking.{word-from}
+
+-- ---- a word received
+
+-- the semi-octets of word i as received
+unfoldable pub arrived : ℕ → ℕ → List ℕ → ℕ → ℕ → ℕ
+arrived size mode places i k = sum (getD places (placeOf size i k) 0) (signature mode i k)
+
+pub arrived-next : (size mode : ℕ) (places : List ℕ) (i n k y p : ℕ) (w : List ℕ) → Filled (arrived size mode places i) n k w → k < n
+    → p ≡ placeOf size i k → y ≡ signature mode i k → Filled (arrived size mode places i) n (k + 1) (set w k (bitXor (getD places p 0) y))
+unfolding arrived
+arrived-next size mode places i n k y p w f l e h =
+    filled-next (arrived size mode places i) n k w (bitXor (getD places p 0) y) f l
+    (added-row (getD places p 0) y (signature mode i k) h ∙ ap (λ (z : ℕ). sum (getD places z 0) (signature mode i k)) e)
+
+pub arrived-last : (size mode : ℕ) (places : List ℕ) (i n k : ℕ) (w : List ℕ) → n ≡ wordLength size i → n ≤ k → Filled (arrived size mode places i) n k w
+    → w ≡ wordFrom size mode places i
+unfolding arrived wordFrom
+arrived-last size mode places i n k w e l f = filled-last (arrived size mode places i) n k w f l ∙ ap (tab (arrived size mode places i)) e
+
+-- ---- all words corrected
+
+-- the slot with the data that were mended is the corrected one, and the count is that of its changes
+module _ (size mode : ℕ) (slot info : List ℕ) (count : ℕ) (range : InRange size mode) (mended : MendedTo size mode slot info (words size) count) where
+  pub corrected-slot : Corrected size mode slot (slotWith size mode info)
+  corrected-slot = record {
+    bytes = bytes-with size mode info range (mended .given);
+    near = λ i l. rw (word-slot size mode info range (mended .given) i l) (mended .near i l);
+  }
+
+  changed-words : changes size slot (slotWith size mode info) ≡ total (λ j. apart (wordIn size mode slot j) (wordIn size mode (slotWith size mode info) j)) (words size)
+  unfolding wordIn
+  changed-words = changes-words size (signature mode) slot (slotWith size mode info) (range .size-from)
+
+  pub count-changes : count ≡ changes size slot (slotWith size mode info)
+  count-changes =
+      mended .counted
+      ∙ total-same (λ j. apart (wordIn size mode slot j) (codeWord size mode info j)) (λ j. apart (wordIn size mode slot j) (wordIn size mode (slotWith size mode info) j)) (words size)
+      (λ j l. ap (apart (wordIn size mode slot j)) (sym (word-slot size mode info range (mended .given) j l)))
+      ∙ sym changed-words
+
+-- ---- the slot's answer
+
+total-nothing : (f : ℕ → ℕ) (n : ℕ) → ((i : ℕ) → i < n → f i ≡ 0) → total f n ≡ 0
+total-nothing f zero h = total-none f
+total-nothing f (suc n) h =
+    let t = total-nothing f n (λ i l. h i (omega arith)) in
+    let z = h n (omega arith) in
+    total-next f n ∙ omega arith
+
+same-apart : (v w : List ℕ) → v ≡ w → apart v w ≡ 0
+same-apart v w e = let h = apart-front 0 v w e in omega arith
+
+-- a slot of clean words is its own correction
+pub clean-slot : (size mode : ℕ) (slot places info : List ℕ) → InRange size mode → length slot ≡ size → places ≡ unpacked slot → Data size mode info
+    → AllClean size mode places info (words size) → MendedTo size mode slot info (words size) 0
+clean-slot size mode slot places info r l p d a = record {
+  given = d;
+  near = λ j h.
+      let e = same j h in
+      let c = code-word size mode info r d j in
+      record {
+        semi-octets = c .semi-octets;
+        long = ap (λ (x : List ℕ). length x) (sym e);
+        valid = c .valid;
+        near = let z = same-apart (wordIn size mode slot j) (codeWord size mode info j) e in omega (arith, r .mode-from);
+      };
+  counted =
+      sym (total-nothing (λ j. apart (wordIn size mode slot j) (codeWord size mode info j)) (words size)
+      (λ j h. same-apart (wordIn size mode slot j) (codeWord size mode info j) (same j h)));
+}
+  where
+    same : (j : ℕ) → j < words size → wordIn size mode slot j ≡ codeWord size mode info j
+    same j h = sym (word-from size mode slot places j (r .size-from) l p) ∙ sym (a j h)

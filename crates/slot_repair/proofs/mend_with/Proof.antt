@@ -1,0 +1,58 @@
+-- `slot_repair::mend_with` meets its contract. What is left of each word is its answer, whatever the call's number. Assumes nothing.
+use borrow.Author.Needs.{needs}
+use Rattle.code_word.specs.Correct.{batchNumberOf}
+use Rattle.slot_repair.proofs.BatchSteps.{answered, repaired}
+use Rattle.slot_repair.proofs.mend_with.Statement.{statement}
+use Rattle.slot_repair.proofs.mend_with.Tie as tie
+
+receive-all-requires : tie.Need-receive-all-requires
+receive-all-requires c κs = search needs
+
+cast-correct-each : tie.Need-cast-correct-each
+cast-correct-each c = search needs
+
+correct-each-requires : tie.Need-correct-each-requires
+correct-each-requires c κs = search needs
+
+gather-requires : tie.Need-gather-requires
+gather-requires c κs =
+    let s = c .before .before .before .before .before .before .before .before .before .before .before .before .before .before .before .before .before .before in
+    let a = s .args in
+    let r = c .before .before .before .before .before .before .before .before .before .before .before .before .receive-all in
+    let e = c .before .before .before .before .before .before .before .correct-each in
+    let w = answered (a .size) (a .mode) (a .places .now) (r .last .1 .1 .1 .0) (a .counts .now) (s .pre .0) (r .ensures) (s .pre .4)
+    (e .last .0) (e .last .1 .1 .0) (batchNumberOf (e .result)) (e .ensures) in
+    (s .pre .0, w .long, w .below, w .many, s .pre .5)
+
+same-length : tie.Need-same-length
+same-length c = search needs
+
+same-length-2 : tie.Need-same-length-2
+same-length-2 c = search needs
+
+same-length-3 : tie.Need-same-length-3
+same-length-3 c = search needs
+
+returns : tie.Need-returns
+returns c =
+    let s = c .before .before .before .before .before .before .before .before .before .before .before .before .before .before .before .before .before .before .before .before .before in
+    let a = s .args in
+    let r = c .before .before .before .before .before .before .before .before .before .before .before .before .before .before .before .receive-all in
+    let e = c .before .before .before .before .before .before .before .before .before .before .correct-each in
+    let w = answered (a .size) (a .mode) (a .places .now) (r .last .1 .1 .1 .0) (a .counts .now) (s .pre .0) (r .ensures) (s .pre .4)
+    (e .last .0) (e .last .1 .1 .0) (batchNumberOf (e .result)) (e .ensures) in
+    repaired (a .size) (a .mode) (a .places .now) (e .last .0) (e .last .1 .1 .0)
+    (c .before .before .gather .last .1 .1 .1 .1 .0) (c .before .before .gather .result) (s .pre .0) w (c .before .before .gather .ensures)
+
+pub mend-with-spec : {M : Type 1} → statement M
+mend-with-spec =
+    tie.close
+    (tie.spec
+    receive-all-requires
+    cast-correct-each
+    correct-each-requires
+    gather-requires
+    same-length
+    same-length-2
+    same-length-3
+    returns)

@@ -1,0 +1,63 @@
+-- `slot_repair::repair` meets its contract. The room that it lends is as long as asked. Assumes nothing.
+use mathlib.Core.Path.{sym, _∙_}
+use Prim.Native.Nat.{_*_}
+use native.Mathlib.Omega.{arith}
+use lib.Seq.{length-take-le}
+use lib.ListN.{replicate}
+use borrow.Author.Needs.{needs}
+use Rattle.slot_laws.proofs.ProtectSteps.{blanks}
+use Rattle.slot_repair.proofs.repair.Statement.{statement}
+use Rattle.slot_repair.proofs.repair.Tie as tie
+
+word-count-requires : tie.Need-word-count-requires
+word-count-requires c κs = search needs
+
+mul-all : tie.Need-mul-all
+mul-all c = search needs
+
+array-borrow-prefix-all : tie.Need-array-borrow-prefix-all
+array-borrow-prefix-all c = search needs
+
+slice-aggregate-mend-with : tie.Need-slice-aggregate-mend-with
+slice-aggregate-mend-with c =
+    let s = c .before .before .before .before in
+    sym (length-take-le (2 * s .args .size) blanks (omega (arith, s .pre .0 .size-to)))
+
+array-borrow-prefix-counts : tie.Need-array-borrow-prefix-counts
+array-borrow-prefix-counts c = search needs
+
+slice-aggregate-mend-with-2 : tie.Need-slice-aggregate-mend-with-2
+slice-aggregate-mend-with-2 c =
+    sym (length-take-le (c .before .before .word-count .result) (replicate 54 0) (omega (arith, c .before .before .word-count .ensures .1)))
+
+mend-with-requires : tie.Need-mend-with-requires
+mend-with-requires c κs =
+    let s = c .before .before .before .before .before .before in
+    let n = c .before .before .before .word-count in (
+      s .pre .0,
+      s .pre .1,
+      s .pre .2,
+      length-take-le (2 * s .args .size) blanks (omega (arith, s .pre .0 .size-to)),
+      length-take-le (n .result) (replicate 54 0) (omega (arith, n .ensures .1)) ∙ n .ensures .0,
+      s .pre .3,
+    )
+
+same-length : tie.Need-same-length
+same-length c = search needs
+
+returns : tie.Need-returns
+returns c = search needs
+
+pub repair-spec : {M : Type 1} → statement M
+repair-spec =
+    tie.close
+    (tie.spec
+    word-count-requires
+    mul-all
+    array-borrow-prefix-all
+    slice-aggregate-mend-with
+    array-borrow-prefix-counts
+    slice-aggregate-mend-with-2
+    mend-with-requires
+    same-length
+    returns)

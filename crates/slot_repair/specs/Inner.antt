@@ -1,0 +1,54 @@
+-- What the private functions promise one another: no part of what is right of a slot.
+-- Assumes nothing.
+use mathlib.Core.Path.{_≡_}
+use mathlib.Core.List.{List}
+use Prim.Native.Nat.{ℕ, _-_, _*_, _≤_, _<_}
+use lib.ListN.{length, getD, drop}
+use Rattle.laws.specs.Tab.{total, Below}
+use Rattle.code_word_laws.specs.Word.{apart}
+use Rattle.code_word_laws.specs.Correct.{Near}
+use Rattle.slot_laws.specs.Sizes.{words, wordLength}
+use Rattle.slot_laws.specs.Words.{piece, dataWord}
+use Rattle.slot_laws.specs.Order.{Data}
+use Rattle.slot_laws.specs.Slot.{codeWord, wordIn}
+use Rattle.slot_laws.specs.Corrected.{SomeBeyond}
+use Rattle.slot_repair.specs.declared.Outcome.{Outcome}
+use Rattle.slot_repair.specs.declared.Outcome.the-variants.{Repaired, Beyond}
+use Rattle.slot_clean.specs.Inner.{unpacked, wordFrom}
+
+-- the first n words have a count, the sum of them is the count, and the data of these words stand where they belong
+pub record GatheredTo (size mode : ℕ) (all counts info : List ℕ) (n count : ℕ) : Type 0 where
+  pub given : Data size mode info
+  pub each : (j : ℕ) → j < n → dataWord size mode info j ≡ drop (2 * (mode - 1)) (piece (wordLength size) all j)
+  pub few : (j : ℕ) → j < n → getD counts j 0 < mode
+  pub counted : count ≡ total (λ j. getD counts j 0) n
+
+-- some word has no count
+pub record SomeNone (size mode : ℕ) (counts : List ℕ) : Type 0 where
+  pub word : ℕ
+  pub inside : word < words size
+  pub none : mode ≤ getD counts word 0
+
+abbrev pub IsGathered : ℕ → ℕ → List ℕ → List ℕ → List ℕ → Outcome → Type 0
+IsGathered size mode all counts info (Repaired n) = GatheredTo size mode all counts info (words size) n
+IsGathered size mode all counts info Beyond = SomeNone size mode counts
+
+-- the first n words were corrected, and the data hold them
+pub record MendedTo (size mode : ℕ) (slot info : List ℕ) (n count : ℕ) : Type 0 where
+  pub given : Data size mode info
+  pub near : (j : ℕ) → j < n → Near mode (wordIn size mode slot j) (codeWord size mode info j)
+  pub counted : count ≡ total (λ j. apart (wordIn size mode slot j) (codeWord size mode info j)) n
+
+abbrev pub IsRepair : ℕ → ℕ → List ℕ → List ℕ → Outcome → Type 0
+IsRepair size mode slot info (Repaired n) = MendedTo size mode slot info (words size) n
+IsRepair size mode slot info Beyond = SomeBeyond size mode slot
+
+-- every word as received, one after the other
+pub record AllArrived (size mode : ℕ) (places all : List ℕ) : Type 0 where
+  pub long : length all ≡ 2 * size
+  pub below : Below 16 all
+  pub each : (i : ℕ) → i < words size → piece (wordLength size) all i ≡ wordFrom size mode places i
+
+-- the answer for the slot of these semi-octets
+abbrev pub IsRepairFrom : ℕ → ℕ → List ℕ → List ℕ → Outcome → Type 0
+IsRepairFrom size mode places info r = (slot : List ℕ) → length slot ≡ size → places ≡ unpacked slot → IsRepair size mode slot info r

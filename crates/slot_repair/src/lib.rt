@@ -1,0 +1,121 @@
+// The data of a received slot, every word corrected (A.53 to A.55): a clean slot is told first; else its words are taken from their places, corrected in
+// one call, and their data put in order. Inner: `slot` stands over it. It asks for a size and a mode in range and for rooms of their length.
+ghost use mathlib.Core.Path.{_≡_};
+ghost use Prim.Native.Nat.{ℕ, _+_, _-_, _*_, _<_};
+ghost use lib.ListN.{length, getD};
+ghost use Rattle.laws.specs.Tab.{Below};
+ghost use Rattle.slot_laws.specs.Sizes.{InRange, words, wordLength};
+ghost use Rattle.slot_laws.specs.Words.{signature};
+ghost use Rattle.slot_laws.specs.Order.{Data};
+ghost use Rattle.slot_clean.specs.Inner.{wordFrom};
+ghost use Rattle.slot_repair.specs.Inner.{AllArrived, IsGathered, IsRepair, IsRepairFrom};
+
+// Whether every word was corrected: the count of all changes, or a word beyond repair.
+pub enum Outcome {
+    Repaired(u16),
+    Beyond,
+}
+
+// Word i as received.
+fn receive(size: usize, i: usize, mode: usize, places: &[u8], row: &[u8], w: &mut [u8])
+    requires { ⌜ (InRange size mode) × (i < words size) × (length (now places) ≡ 2 * size) × (length (now row) ≡ 15) × (length (now w) ≡ wordLength size i) × ((k : ℕ) → getD (now row) k 0 ≡ signature mode i k) ⌝ }
+    ensures { λ _. ⌜ now (w .exit) ≡ wordFrom size mode (now (places .entry)) i ⌝ }
+{
+    let count = slot_sizes::word_count(size);
+    let mut k: usize = 0;
+    while k < w.len() {
+        w[k] = places[2 * size - count * k - i - 1] ^ row[k];
+        k = k + 1;
+    }
+}
+
+// The words as received, one after the other.
+fn receive_all(size: usize, mode: usize, places: &[u8], all: &mut [u8])
+    requires { ⌜ (InRange size mode) × (length (now places) ≡ 2 * size) × (Below 16 (now places)) × (length (now all) ≡ 2 * size) ⌝ }
+    ensures { λ _. ⌜ AllArrived size mode (now (places .entry)) (now (all .exit)) ⌝ }
+{
+    let count = slot_sizes::word_count(size);
+    let mut at: usize = 0;
+    let mut i: usize = 0;
+    while i < count {
+        let e = at + slot_sizes::word_length(size, count, i);
+        let row = slot_interleaving::signature_row(mode, i);
+        receive(size, i, mode, places, &row, &mut all[at..e]);
+        at = e;
+        i = i + 1;
+    }
+}
+
+// The data of every word put where they belong, and the counts added; or a word has no count.
+fn gather(size: usize, mode: usize, all: &[u8], counts: &[u8], info: &mut [u8]) -> Outcome
+    requires { ⌜ (InRange size mode) × (length (now all) ≡ 2 * size) × (Below 16 (now all)) × (length (now counts) ≡ words size) × (Data size mode (now info)) ⌝ }
+    ensures { λ r. ⌜ IsGathered size mode (now (all .entry)) (now (counts .entry)) (now (info .exit)) r ⌝ }
+{
+    let checks = 2 * (mode - 1);
+    let mut from: usize = 0;
+    let mut at: usize = 0;
+    let mut sum: u16 = 0;
+    let mut i: usize = 0;
+    while i < counts.len() {
+        let n = counts[i];
+        if mode <= n as usize {
+            return Outcome::Beyond;
+        }
+        let long = slot_sizes::word_length(size, counts.len(), i);
+        let e = at + (long - checks);
+        slot_interleaving::copy_part(all, from + checks, &mut info[at..e]);
+        sum = sum + n as u16;
+        from = from + long;
+        at = e;
+        i = i + 1;
+    }
+    Outcome::Repaired(sum)
+}
+
+// Every word corrected, with room lent for the words and for a count a word.
+fn mend_with(
+    size: usize,
+    mode: usize,
+    places: &[u8],
+    all: &mut [u8],
+    counts: &mut [u8],
+    info: &mut [u8],
+) -> Outcome
+    requires { ⌜ (InRange size mode) × (length (now places) ≡ 2 * size) × (Below 16 (now places)) × (length (now all) ≡ 2 * size) × (length (now counts) ≡ words size) × (Data size mode (now info)) ⌝ }
+    ensures { λ r. ⌜ IsRepairFrom size mode (now (places .entry)) (now (info .exit)) r ⌝ }
+{
+    receive_all(size, mode, places, all);
+    code_word::correct_each(all, mode as u32, counts);
+    gather(size, mode, all, counts, info)
+}
+
+// Every word corrected.
+fn repair(size: usize, mode: usize, places: &[u8], info: &mut [u8]) -> Outcome
+    requires { ⌜ (InRange size mode) × (length (now places) ≡ 2 * size) × (Below 16 (now places)) × (Data size mode (now info)) ⌝ }
+    ensures { λ r. ⌜ IsRepairFrom size mode (now (places .entry)) (now (info .exit)) r ⌝ }
+{
+    let count = slot_sizes::word_count(size);
+    let mut all = [0u8; 800];
+    let mut counts = [0u8; 54];
+    mend_with(
+        size,
+        mode,
+        places,
+        &mut all[..2 * size],
+        &mut counts[..count],
+        info,
+    )
+}
+
+// The data of the slot, with every word corrected.
+pub fn mend_all(size: usize, mode: usize, slot: &[u8], info: &mut [u8]) -> Outcome
+    requires { ⌜ (InRange size mode) × (length (now slot) ≡ size) × (Data size mode (now info)) ⌝ }
+    ensures { λ r. ⌜ IsRepair size mode (now (slot .entry)) (now (info .exit)) r ⌝ }
+{
+    let mut places = [0u8; 800];
+    slot_clean::unpack(slot, &mut places[..2 * size]);
+    if slot_clean::clean(size, mode, &places[..2 * size], info) {
+        return Outcome::Repaired(0);
+    }
+    repair(size, mode, &places[..2 * size], info)
+}

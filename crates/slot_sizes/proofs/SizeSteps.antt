@@ -1,0 +1,127 @@
+-- What the code of the sizes asks: each size by its cases, the smaller numbers of A.11, and a turn of the loop over the last words.
+-- Assumes nothing.
+use mathlib.Core.Path.{_≡_, refl, sym, ap, ap₂, _∙_}
+use mathlib.Core.Bool.{Bool, true, false}
+use Prim.Native.Nat.{ℕ, _+_, _*_, _-_, _/_, _≤_, _<_}
+use native.Mathlib.Omega.{arith}
+use native.Mathlib.Numerals.{add-one}
+use lib.Dec.{eqb, leb, eqb→eq}
+use borrow.Author.Tests.{eq-eqb, ne-eqb, le-leb, lt-leb}
+use Rattle.laws.specs.Tab.{pick, total}
+use Rattle.laws.proofs.Every.{at}
+use Rattle.laws.proofs.Tab.{total-next, total-none}
+use Rattle.slot_laws.specs.Sizes.{InRange, words, wordLength, dataLength, concealWords, block, conceal, hash1, hash2, frameSize}
+use Rattle.slot_laws.proofs.Sizes.{length-low, length-high, overhead, conceal-fits}
+
+pub word-count-is : (size r : ℕ) → size ≤ 400 → r ≡ (2 * size + 14) / 15 → (r ≡ words size) × (r ≤ 54)
+unfolding words
+word-count-is size r h e = (e, omega arith)
+
+length-as : (size count i : ℕ) → count ≡ words size → (2 * size - i - 1) / count + 1 ≡ wordLength size i
+unfolding wordLength
+length-as size count i e = ap (λ (x : ℕ). (2 * size - i - 1) / x + 1) e
+
+pub word-length-is : (size count i r : ℕ) → 40 ≤ size → count ≡ words size → i < words size → r ≡ (2 * size - i - 1) / count + 1
+    → (r ≡ wordLength size i) × (13 ≤ r) × (r ≤ 15)
+word-length-is size count i r h c l e =
+    let d : r ≡ wordLength size i = e ∙ length-as size count i c in
+    let a = length-low size i h l in
+    let b = length-high size i h in
+    (d, omega arith, omega arith)
+
+-- ---- hashes
+
+pub hash1-forty : (size : ℕ) → size ≡ 40 → hash1 size ≡ 2
+unfolding hash1
+hash1-forty size e = rw (eq-eqb size 40 e)
+
+pub hash1-other : (size : ℕ) → (size ≡ 40 → ⊥) → hash1 size ≡ 3
+unfolding hash1
+hash1-other size n = rw (ne-eqb size 40 n)
+
+pub hash2-small : (size mode : ℕ) → size < 80 → hash2 size mode ≡ 0
+unfolding hash2
+hash2-small size mode h = rw (lt-leb 80 size h)
+
+pick-same : (b : Bool) (a : ℕ) → pick b a a ≡ a
+pick-same true a = refl
+pick-same false a = refl
+
+pub hash2-two : (size mode : ℕ) → mode < 3 → hash2 size mode ≡ 0
+unfolding hash2
+hash2-two size mode h = rw (lt-leb 3 mode h) (pick-same (leb 80 size) 0)
+
+pub hash2-large : (size mode : ℕ) → 80 ≤ size → 3 ≤ mode → hash2 size mode ≡ 2
+unfolding hash2
+hash2-large size mode h k = rw (le-leb 80 size h, le-leb 3 mode k)
+
+-- ---- partial concealment words
+
+three-test : ℕ → Bool
+three-test k = eqb ((80447761194030 * (80 + k) - 1791044776119394 + 500000000000000) / 1000000000000000) ((539 * (80 + k) - 8650) / 6700)
+
+four-test : ℕ → Bool
+four-test k = eqb ((66492537313433 * (80 + k) - 1970149253731338 + 500000000000000) / 1000000000000000) ((4455 * (80 + k) - 98500) / 67000)
+
+pub conceal-small : (size mode : ℕ) → size < 80 → concealWords size mode ≡ 0
+unfolding concealWords
+conceal-small size mode h = rw (lt-leb 80 size h)
+
+pub conceal-three : (size mode : ℕ) → 80 ≤ size → size ≤ 400 → mode ≡ 3 → concealWords size mode ≡ (539 * size - 8650) / 6700
+unfolding concealWords three-test
+conceal-three size mode h k e =
+    let s : 80 + (size - 80) ≡ size = omega arith in
+    let l : size - 80 < 321 = omega arith in
+    let t = eqb→eq ((80447761194030 * (80 + (size - 80)) - 1791044776119394 + 500000000000000) / 1000000000000000) ((539 * (80 + (size - 80)) - 8650) / 6700)
+    (at 321 three-test tt (size - 80) l) in
+    rw (le-leb 80 size h, eq-eqb mode 3 e) (rw s at t)
+
+pub conceal-four : (size mode : ℕ) → 80 ≤ size → size ≤ 400 → mode ≡ 4 → concealWords size mode ≡ (4455 * size - 98500) / 67000
+unfolding concealWords four-test
+conceal-four size mode h k e =
+    let s : 80 + (size - 80) ≡ size = omega arith in
+    let l : size - 80 < 321 = omega arith in
+    let n : (mode ≡ 3 → ⊥) = λ x. omega arith in
+    let t = eqb→eq ((66492537313433 * (80 + (size - 80)) - 1970149253731338 + 500000000000000) / 1000000000000000) ((4455 * (80 + (size - 80)) - 98500) / 67000)
+    (at 321 four-test tt (size - 80) l) in
+    rw (le-leb 80 size h, ne-eqb mode 3 n, eq-eqb mode 4 e) (rw s at t)
+
+pub conceal-other : (size mode : ℕ) → (mode ≡ 3 → ⊥) → (mode ≡ 4 → ⊥) → concealWords size mode ≡ 0
+unfolding concealWords
+conceal-other size mode n m = rw (ne-eqb mode 3 n, ne-eqb mode 4 m) (pick-same (leb 80 size) 0)
+
+-- ---- the block
+
+pub block-none : (size mode : ℕ) → 0 ≡ block size mode 0
+unfolding block
+block-none size mode = sym (total-none (λ j. dataLength size mode (words size - 1 - j)))
+
+pub block-next : (size mode k l sum : ℕ) → l ≡ wordLength size (words size - 1 - k) → sum ≡ block size mode k
+    → sum + (l - 2 * (mode - 1)) ≡ block size mode (k + 1)
+unfolding block dataLength
+block-next size mode k l sum e h =
+    let c : l - 2 * (mode - 1) ≡ wordLength size (words size - 1 - k) - (2 * mode - 1 - 1) = omega arith in
+    ap₂ (λ (x y : ℕ). x + y) h c
+    ∙ sym (total-next (λ j. wordLength size (words size - 1 - j) - (2 * mode - 1 - 1)) k)
+    ∙ ap (λ (x : ℕ). total (λ j. wordLength size (words size - 1 - j) - (2 * mode - 1 - 1)) x) (sym (add-one k))
+
+conceal-as : (size mode : ℕ) → block size mode (concealWords size mode) ≡ conceal size mode
+unfolding conceal
+conceal-as size mode = refl
+
+pub block-last : (size mode sum : ℕ) → InRange size mode → sum ≡ block size mode (concealWords size mode) → (sum ≡ conceal size mode) × (sum ≤ 2 * frameSize size mode)
+block-last size mode sum r e = let f = conceal-fits size mode r in let d : sum ≡ conceal size mode = e ∙ conceal-as size mode in (d, omega arith)
+
+-- ---- the frame
+
+pub frame-is : (size mode a b w r : ℕ) → InRange size mode → a ≡ hash1 size → b ≡ hash2 size mode → w ≡ words size → r ≡ size - a - b - w * (mode - 1)
+    → (r ≡ frameSize size mode) × (r ≤ 400)
+unfolding frameSize
+frame-is size mode a b w r g d e f h =
+    (h ∙ ap₂ (λ (x y : ℕ). size - x - y - w * (mode - 1)) d e ∙ ap (λ (x : ℕ). size - hash1 size - hash2 size mode - x * (mode - 1)) f, omega (arith, g .size-to))
+
+pub check-bytes : (size mode a b w : ℕ) → InRange size mode → a ≡ hash1 size → b ≡ hash2 size mode → w ≡ words size → a + b + w * (mode - 1) ≤ size
+check-bytes size mode a b w g d e f =
+    let o = overhead size mode g in
+    let m : w * (mode - 1) ≡ words size * (mode - 1) = ap (λ (x : ℕ). x * (mode - 1)) f in
+    omega arith

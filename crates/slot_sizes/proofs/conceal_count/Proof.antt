@@ -1,0 +1,44 @@
+-- `slot::geometry::conceal_count` meets its contract. Assumes nothing.
+use Rattle.slot_sizes.proofs.SizeSteps.{conceal-small, conceal-three, conceal-four, conceal-other}
+use native.Mathlib.Omega.{arith}
+use mathlib.Core.Path.{sym}
+use borrow.Author.Needs.{needs}
+use Rattle.slot_sizes.proofs.conceal_count.Statement.{statement}
+use Rattle.slot_sizes.proofs.conceal_count.Tie as tie
+
+returns : tie.Need-returns
+returns c = let a = c .before .args in sym (conceal-small (a .size) (a .mode) (omega arith))
+
+mul-result : tie.Need-mul-result
+mul-result c = search needs
+
+sub-result : tie.Need-sub-result
+sub-result c = search needs
+
+mul-result-2 : tie.Need-mul-result-2
+mul-result-2 c = search needs
+
+sub-result-2 : tie.Need-sub-result-2
+sub-result-2 c = search needs
+
+returns-2 : tie.Need-returns-2
+returns-2 c = let a = c .before .before .args in sym (conceal-three (a .size) (a .mode) (omega arith) (omega arith) (omega arith))
+
+returns-3 : tie.Need-returns-3
+returns-3 c = let a = c .before .before .args in sym (conceal-four (a .size) (a .mode) (omega arith) (omega arith) (omega arith))
+
+returns-4 : tie.Need-returns-4
+returns-4 c = let a = c .before .before .args in sym (conceal-other (a .size) (a .mode) (λ e. omega arith) (λ e. omega arith))
+
+pub conceal-count-spec : {M : Type 1} → statement M
+conceal-count-spec =
+    tie.close
+    (tie.spec
+    returns
+    mul-result
+    sub-result
+    mul-result-2
+    sub-result-2
+    returns-2
+    returns-3
+    returns-4)

@@ -1,0 +1,77 @@
+// The sizes of a slot's parts (A.7 to A.15): each function equals its definition in specs/Sizes.antt.
+ghost use mathlib.Core.Path.{_≡_};
+ghost use Prim.Native.Nat.{_+_, _*_, _≤_, _<_};
+ghost use Rattle.slot_laws.specs.Sizes.{InRange, words, wordLength, dataLength, concealWords, conceal, hash1, hash2, frameSize};
+
+pub fn word_count(size: usize) -> usize
+    requires { ⌜ size ≤ 400 ⌝ }
+    ensures { λ r. ⌜ (r ≡ words size) × (r ≤ 54) ⌝ }
+{
+    (2 * size + 14) / 15
+}
+
+pub fn word_length(size: usize, count: usize, i: usize) -> usize
+    requires { ⌜ (40 ≤ size) × (size ≤ 400) × (count ≡ words size) × (i < words size) ⌝ }
+    ensures { λ r. ⌜ (r ≡ wordLength size i) × (13 ≤ r) × (r ≤ 15) ⌝ }
+{
+    (2 * size - i - 1) / count + 1
+}
+
+pub fn first_hash_size(size: usize) -> usize
+    ensures { λ r. ⌜ (r ≡ hash1 size) × (2 ≤ r) × (r ≤ 3) ⌝ }
+{
+    match size {
+        40 => 2,
+        _ => 3,
+    }
+}
+
+pub fn second_hash_size(size: usize, mode: usize) -> usize
+    ensures { λ r. ⌜ (r ≡ hash2 size mode) × (r ≤ 2) ⌝ }
+{
+    if size < 80 {
+        return 0;
+    }
+    if mode < 3 {
+        return 0;
+    }
+    2
+}
+
+// A.11 in smaller whole numbers, which give the same from 80 to 400.
+pub fn conceal_count(size: usize, mode: usize) -> usize
+    requires { ⌜ InRange size mode ⌝ }
+    ensures { λ r. ⌜ r ≡ concealWords size mode ⌝ }
+{
+    if size < 80 {
+        return 0;
+    }
+    match mode {
+        3 => (539 * size - 8650) / 6700,
+        4 => (4455 * size - 98500) / 67000,
+        _ => 0,
+    }
+}
+
+// The data semi-octets of the last words.
+pub fn conceal_size(size: usize, mode: usize) -> usize
+    requires { ⌜ InRange size mode ⌝ }
+    ensures { λ r. ⌜ (r ≡ conceal size mode) × (r ≤ 2 * frameSize size mode) ⌝ }
+{
+    let count = word_count(size);
+    let n = conceal_count(size, mode);
+    let mut sum: usize = 0;
+    let mut k: usize = 0;
+    while k < n {
+        sum = sum + (word_length(size, count, count - 1 - k) - 2 * (mode - 1));
+        k = k + 1;
+    }
+    sum
+}
+
+pub fn frame_bytes(size: usize, mode: usize) -> usize
+    requires { ⌜ InRange size mode ⌝ }
+    ensures { λ r. ⌜ (r ≡ frameSize size mode) × (r ≤ 400) ⌝ }
+{
+    size - first_hash_size(size) - second_hash_size(size, mode) - word_count(size) * (mode - 1)
+}
