@@ -1,40 +1,26 @@
 -- A whole frame (5.4.2), in the order of reading; and what the reader answers: document 01's number, the cause, and the values.
 -- Assumes nothing.
-use mathlib.Core.Path.{_≡_}
 use mathlib.Core.Bool.{Bool, _&&_, cond}
 use mathlib.Core.List.{List}
-use Prim.Native.Nat.{ℕ, _/_}
+use Prim.Native.Nat.{ℕ}
 use lib.Dec.{leb, eqb}
-use lib.ListN.{length, take, replicate}
-use lib.IntN.{ℤ, pos}
-use Rattle.coder_tables.specs.Tables.{lookTable, spectrumTable, orderTable, coefficientTable}
+use lib.ListN.{length}
+use lib.IntN.{ℤ}
+use Rattle.coder_tables.specs.Tables.{orderTable, coefficientTable}
 use Rattle.frame_bits.specs.Read.{Read, value, cause, andThen}
-use Rattle.frame_settings.specs.Settings.{rateOf, rateOffset, weighting}
+use Rattle.frame_settings.specs.Settings.{rateOf, weighting}
 use Rattle.frame_side.specs.Side.{sideOf}
 use Rattle.frame_coder.specs.Symbol.{startOf}
 use Rattle.frame_tns.specs.Tns.{Filter, filterOf, unused}
-use Rattle.frame_pairs.specs.Pairs.{Spectrum, pairsOf}
-use Rattle.frame_residual.specs.Residual.{Residual, leftOf}
 use Rattle.frame_settings.specs.declared.Setting.{Setting}
 use Rattle.frame_settings.specs.declared.Rate.{Rate}
 use Rattle.frame_settings.specs.declared.Rate.the-variants as rate
 use Rattle.frame_side.specs.declared.Side.{Side}
-use Rattle.frame_coder.specs.declared.Coder.{Coder}
-use Rattle.frame_side.specs.declared.Head.{Head}
-use Rattle.frame_pairs.specs.declared.PairSetting.{PairSetting}
-use Rattle.frame.specs.declared.SpectralRead.{SpectralRead}
-use Rattle.frame.specs.declared.SpectralRead.the-variants as spectralRead
 use Rattle.frame.specs.declared.Fields.{Fields}
 use Rattle.frame.specs.declared.Reading.{Reading}
 use Rattle.frame.specs.declared.Answer.{Answer}
 use Rattle.frame.specs.declared.Answer.the-variants as answer
-use Rattle.frame_residual.specs.Residual.{finishedOf, sentBits}
-
--- what follows the TNS data: the number of symbols taken, the lines and the residual bits, NE entries each
-pub record Spectral : Type 0 where
-  pub symbols : ℕ
-  pub lines : List ℤ
-  pub residual : Residual
+use Rattle.frame_spectral.specs.Spectral.{Spectral, spectralFrom}
 
 -- what an accepted frame holds
 pub record Whole : Type 0 where
@@ -42,25 +28,6 @@ pub record Whole : Type 0 where
   pub first : Filter
   pub second : Filter
   pub spectral : Spectral
-
--- what the pairs are read with
-abbrev pub pairSetting : Setting → ℕ → ℕ → PairSetting
-pairSetting r bytes lsb = record { lsb = lsb; offset = rateOffset (r .index) bytes; half = r .lines / 2 }
-
-abbrev pub spectralOf : List ℕ → Setting → Head → Spectrum → ℕ → ℕ → ℕ → Spectral
-spectralOf s r h x symbols p left =
-    record {
-      symbols = symbols;
-      lines = take (r .lines) (finishedOf s (h .«lsb_mode») (h .«last_line») x p left);
-      residual = sentBits s (h .«lsb_mode») (r .lines) x p left;
-    }
-
--- the pairs and what follows them, from both cursors; the working spectrum starts as 400 zeros
-unfoldable pub spectralFrom : List ℕ → Setting → Head → Coder → ℕ → Read ℕ Spectral
-spectralFrom s r h c p =
-    andThen (pairsOf s lookTable spectrumTable (pairSetting r (length s) (h .«lsb_mode»)) (h .«last_line» / 2) 0 0 c p
-    (replicate 400 (pos 0)) (replicate 200 0)) (λ x k.
-    andThen (leftOf (length s) (k .side) (k .coder)) (λ left p. value (spectralOf s r h x (k .coder .taken) p left) p))
 
 -- the arithmetic stream: the two filters' TNS data, then the pairs
 unfoldable pub arithmeticFrom : List ℕ → Setting → Side → ℕ → Read ℕ Whole
@@ -158,16 +125,3 @@ answered (answer.BitError k) first second = record { number = 5; cause = k; fiel
 
 abbrev pub told : Reading → Given
 told r = answered (r .answer) (r .«tns_coefficients_0») (r .«tns_coefficients_1»)
-
--- the answer of the pairs and what follows them, with the lines and the residual bits in the buffers lent; on a cause both are as lent
-abbrev pub spectralGiven : SpectralRead → List ℤ → List ℕ → Read ℕ Spectral
-spectralGiven (spectralRead.Value symbols number p) lines bits = value (record { symbols = symbols; lines = lines; residual = record { number = number; bits = bits } }) p
-spectralGiven (spectralRead.Cause k) lines bits = cause k
-
-abbrev pub KeptOnCause : SpectralRead → List ℤ → List ℤ → List ℕ → List ℕ → Type 0
-KeptOnCause (spectralRead.Value symbols number p) lines lines′ bits bits′ = Unit {0}
-KeptOnCause (spectralRead.Cause k) lines lines′ bits bits′ = (lines′ ≡ lines) × (bits′ ≡ bits)
-
-abbrev pub spectralCause : SpectralRead → ℕ
-spectralCause (spectralRead.Value symbols number p) = 0
-spectralCause (spectralRead.Cause k) = k

@@ -2,20 +2,13 @@
 // Promised for every input: the answer and both lent buffers are those of the clause's own walk in specs/Frame.antt, or document 01's 1, 2 or 5
 // with the first cause in reading order; a refusal leaves both buffers as lent. Values lie in -32,767 to 32,767, symbols are at most 18 + 7 x last line.
 ghost use mathlib.Core.Path.{_≡_};
-ghost use Prim.Native.Nat.{_≤_, _<_, _*_, _/_};
+ghost use Prim.Native.Nat.{_/_};
 ghost use lib.ListN.{length};
 ghost use Rattle.frame_settings.specs.Settings.{Known, Sized, lineCount};
 ghost use Rattle.frame_tns.specs.Tns.{unused};
-ghost use Rattle.frame.specs.Frame.{judgedOf, judgedSized, judgedRead, arithmeticFrom, spectralFrom, spectralGiven, spectralCause, KeptOnCause, givenOf, spectrumOf, residualAfter, told};
-ghost use Rattle.frame_coder.specs.Sound.{Sound};
+ghost use Rattle.frame.specs.Frame.{judgedOf, judgedSized, judgedRead, arithmeticFrom, givenOf, spectrumOf, residualAfter, told};
 ghost use Rattle.frame_side.specs.Sound.{Sided};
-ghost use Rattle.frame.specs.Sound.{GoodSpectral, Bounded};
-
-
-use frame_coder::Coder;
-use frame_pairs::PairSetting;
-use frame_pairs::PairsRead;
-use frame_residual::Left;
+ghost use Rattle.frame.specs.Sound.{Bounded};
 use frame_settings::Rate;
 use frame_settings::Setting;
 pub use frame_side::Flags;
@@ -25,6 +18,10 @@ pub use frame_side::Side;
 use frame_side::SideRead;
 pub use frame_side::Tail;
 use frame_tns::FilterRead;
+use frame_spectral::SpectralRead;
+use frame_spectral::read_spectral;
+use frame_spectral::spectral_cause;
+
 
 // What an accepted frame says beside its TNS coefficients, spectrum and residual bits.
 pub struct Fields {
@@ -41,12 +38,6 @@ pub enum Answer {
     Setting,
     Length,
     BitError(u8),
-}
-
-// The number of symbols taken, that of the residual bits and the side cursor, or a cause; lines and residual bits stand in the lent buffers.
-enum SpectralRead {
-    Value(u16, u16, usize),
-    Cause(u8),
 }
 
 // The answer, and beside it each filter's coefficients: 0 from its order on, and all 0 on a refusal.
@@ -161,64 +152,5 @@ fn read_arithmetic(
         }),
         tns_coefficients_0: first,
         tns_coefficients_1: second,
-    }
-}
-
-// The pairs, the bits left, and after the last check what goes to the lent buffers.
-fn read_spectral(
-    r: Setting,
-    h: Head,
-    c: Coder,
-    p: usize,
-    frame: &[u8],
-    spectrum: &mut [i32],
-    residual: &mut [u8],
-) -> SpectralRead
-    requires { ⌜ Known r × Sized (now frame) × (h .«last_line» ≤ r .lines) × (h .«last_line» ≡ 2 * (h .«last_line» / 2)) × (h .«lsb_mode» < 2) × Sound (now frame) c × (c .taken ≤ 18) × (p ≤ 74) × (length (now spectrum) ≡ r .lines) × (length (now residual) ≡ r .lines) ⌝ }
-    ensures { λ o. ⌜ spectralGiven o (now (spectrum .exit)) (now (residual .exit)) ≡ spectralFrom (now (frame .entry)) r h c p ⌝ }
-    ensures { λ o. ⌜ KeptOnCause o (now (spectrum .entry)) (now (spectrum .exit)) (now (residual .entry)) (now (residual .exit)) ⌝ }
-    ensures { λ o. ⌜ GoodSpectral (h .«last_line») o (now (spectrum .exit)) ⌝ }
-{
-    let look = coder_tables::lookup();
-    let cum = coder_tables::spectrum();
-    let mut x = [0i32; 400];
-    let mut levels = [0u8; 200];
-    let lsb = frame_bits::wide(h.lsb_mode);
-    let last = h.last_line as usize;
-    let o = PairSetting {
-        lsb,
-        offset: frame_settings::rate_offset(r.index, frame.len()),
-        half: r.lines / 2,
-    };
-    let got = frame_pairs::read_pairs(frame, &look, &cum, o, last / 2, c, p, &mut x, &mut levels);
-    let PairsRead::Value(d, q) = got else {
-        return SpectralRead::Cause(frame_pairs::pairs_cause(got));
-    };
-    let got2 = frame_residual::bits_left(frame.len(), q, d);
-    let Left::Value(left) = got2 else {
-        return SpectralRead::Cause(frame_residual::left_cause(got2));
-    };
-    let count = frame_residual::finish(
-        frame,
-        lsb,
-        last,
-        &mut x,
-        &levels,
-        q,
-        left,
-        spectrum,
-        residual,
-    );
-    let symbols = d.taken as u16;
-    let number = count as u16;
-    SpectralRead::Value(symbols, number, q)
-}
-
-fn spectral_cause(r: SpectralRead) -> u8
-    ensures { λ k. ⌜ k ≡ spectralCause r ⌝ }
-{
-    match r {
-        SpectralRead::Cause(k) => k,
-        SpectralRead::Value(_, _, _) => 0,
     }
 }

@@ -1,3 +1,2 @@
 -- Laws.
-pub mod Escaping
 pub mod PairWalk

@@ -5,6 +5,8 @@ use mathlib.Core.Bool.{Bool, true, false, cond}
 use mathlib.Core.List.{List}
 use Prim.Native.Nat.{ℕ, zero, suc, _+_, _-_, _*_, _/_, _≤_, _<_}
 use native.Mathlib.Omega.{arith}
+use native.Mathlib.Nat.{add-zero}
+use borrow.Author.Tests.{lt-ltb, le-ltb}
 use native.Mathlib.Numerals.{add-one}
 use lib.Dec.{eqb}
 use lib.ListN.{length, getD, set, length-set}
@@ -15,11 +17,21 @@ use mir.Val.{SFits, ofZ, toZ}
 use mir.ValLaws.{toZ-pos, toZ-ofZ}
 use borrow.Author.Tests.{eqb-true, eqb-false, eq-eqb, ne-eqb}
 use Rattle.frame_bits.specs.Read.{Read, value, cause}
-use Rattle.frame_pairs.specs.Pairs.{Streams, Spectrum, pairOf, baseOf, lineOf, storeOf, pairsOf}
-use Rattle.frame_pairs.specs.Sound.{Room, Roomy}
+use Rattle.frame_pair.specs.Pair.{Streams, pairOf}
+use Rattle.frame_pairs.specs.Pairs.{Spectrum, baseOf, lineOf, storeOf, pairsOf}
+use Rattle.frame_pair.specs.Sound.{Room}
+use Rattle.frame_pairs.specs.Sound.{Roomy}
 use Rattle.frame_coder.specs.declared.Coder.{Coder}
-use Rattle.frame_pairs.specs.declared.Pair.{Pair}
+use Rattle.frame_pair.specs.declared.Pair.{Pair}
 use Rattle.frame_pairs.specs.declared.PairSetting.{PairSetting}
+
+-- ---- the context of a line with its offsets
+
+pub base-past : (context offset half k : ℕ) → half < k → context + offset + 256 ≡ baseOf context offset half k
+base-past context offset half k h = rw (lt-ltb half k h)
+
+pub base-before : (context offset half k : ℕ) → k ≤ half → context + offset ≡ baseOf context offset half k
+base-before context offset half k h = rw (le-ltb half k h) (sym (add-zero (context + offset)))
 
 -- ---- a line
 

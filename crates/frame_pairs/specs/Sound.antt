@@ -1,49 +1,14 @@
 -- What the reader's own steps promise each other beside their definitions: bounds of what is read, and cursors that stay inside.
 -- No public promise but `Bounded` rests on a line of this. Assumes nothing.
-use mathlib.Core.Path.{_≡_}
 use mathlib.Core.List.{List}
-use Prim.Native.Nat.{ℕ, _+_, _*_, _/_, _^_, _<_, _≤_}
+use Prim.Native.Nat.{ℕ, _+_, _*_, _/_, _≤_}
 use lib.ListN.{length, getD}
 use lib.IntN.{ℤ, pos, natAbs}
-use Rattle.frame_bits.specs.declared.Bits.{Bits}
-use Rattle.frame_bits.specs.declared.Bits.the-variants as bits
 use Rattle.frame_coder.specs.declared.Coder.{Coder}
-use Rattle.frame_pairs.specs.declared.Plane.{Plane}
-use Rattle.frame_pairs.specs.declared.Plane.the-variants as plane
-use Rattle.frame_pairs.specs.declared.LastRead.{LastRead}
-use Rattle.frame_pairs.specs.declared.LastRead.the-variants as lastRead
-use Rattle.frame_pairs.specs.declared.PairRead.{PairRead}
-use Rattle.frame_pairs.specs.declared.PairRead.the-variants as pairRead
 use Rattle.frame_pairs.specs.declared.PairsRead.{PairsRead}
 use Rattle.frame_pairs.specs.declared.PairsRead.the-variants as pairsRead
 use Rattle.frame_coder.specs.Sound.{Sound}
-
-abbrev pub GoodSign : Bits → Type 0
-GoodSign (bits.Value v q) = v < 2
-GoodSign (bits.Cause k) = k ≡ 6
-
--- a value that `level` escapes have built: in LSB mode 1 its lowest bit is still to come
-abbrev pub Built : ℕ → ℕ → ℕ → Type 0
-Built lsb level x = (x < 2 ^ level) × (1 ≤ level → x + 1 + lsb ≤ 2 ^ level)
-
-abbrev pub GoodPlane : ℕ → ℕ → Plane → Type 0
-GoodPlane lsb level (plane.Value x y p) = Built lsb (level + 1) x × Built lsb (level + 1) y
-GoodPlane lsb level (plane.Cause k) = k ≡ 6
-
-abbrev pub GoodLast : List ℕ → ℕ → Coder → LastRead → Type 0
-GoodLast s lsb c (lastRead.Value l d p) =
-    (l .symbol < 16) × (l .level ≤ 13) × Built lsb (l .level) (l .x) × Built lsb (l .level) (l .y) × (d .taken ≤ c .taken + 14) × Sound s d
-GoodLast s lsb c (lastRead.Cause k) = (4 ≤ k) × (k ≤ 6)
-
--- a magnitude, which a late low bit may still raise in LSB mode 1 where there was an escape
-abbrev pub Room : ℕ → ℕ → ℕ → Type 0
-Room lsb level m = (m ≤ 32767) × (1 ≤ level → m + lsb ≤ 32767)
-
-abbrev pub GoodPair : List ℕ → ℕ → Coder → PairRead → Type 0
-GoodPair s lsb c (pairRead.Value q d p) =
-    Room lsb (q .level) (q .x) × Room lsb (q .level) (q .y) × (q .level ≤ 13) × (q .context < 256) × (d .taken ≤ c .taken + 14)
-    × (p ≤ 8 * length s + 23) × Sound s d
-GoodPair s lsb c (pairRead.Cause k) = (4 ≤ k) × (k ≤ 6)
+use Rattle.frame_pair.specs.Sound.{Room}
 
 -- every line has room for what may still come
 abbrev pub Roomy : ℕ → List ℤ → List ℕ → Type 0

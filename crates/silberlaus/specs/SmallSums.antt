@@ -9,7 +9,7 @@ use Rattle.frame_bits.specs.Read.{value, cause}
 use Rattle.frame_settings.specs.Settings.{rateOf}
 use Rattle.frame_bits.specs.Bits.{readBits}
 use Rattle.frame_side.specs.Side.{headOf}
-use Rattle.frame_pairs.specs.Pairs.{contextOf}
+use Rattle.frame_pair.specs.Pair.{contextOf}
 use Rattle.frame_settings.specs.declared.Setting.{Setting}
 use Rattle.frame_settings.specs.declared.Rate.the-variants as rate
 use Rattle.record_bytes.specs.Layout.{recordBytes}

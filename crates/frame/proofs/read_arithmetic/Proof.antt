@@ -7,10 +7,10 @@ use native.Mathlib.Omega.{arith}
 use denote.Ref.{now}
 use Rattle.frame_bits.specs.Read.{value}
 use Rattle.frame_tns.specs.Tns.{Filter, filterGiven}
-use Rattle.frame.specs.Frame.{spectralGiven}
+use Rattle.frame_spectral.specs.Spectral.{spectralGiven}
 use Rattle.frame_coder.specs.declared.Coder.{Coder}
 use Rattle.frame_tns.specs.declared.FilterRead.{FilterRead}
-use Rattle.frame.specs.declared.SpectralRead.{SpectralRead}
+use Rattle.frame_spectral.specs.declared.SpectralRead.{SpectralRead}
 use Rattle.frame.proofs.WholeFrame.{tns-tables, start-taken, firstAt, secondAt, first-at, second-at, arithmetic-value, answers-cause, answers-value}
 use Rattle.frame.proofs.WholeFrame.{first-refused, second-refused, third-refused}
 

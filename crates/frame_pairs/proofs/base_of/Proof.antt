@@ -3,7 +3,7 @@ use borrow.Author.Needs.{needs}
 use Rattle.frame_pairs.proofs.base_of.Statement.{statement}
 use Rattle.frame_pairs.proofs.base_of.Tie as tie
 use native.Mathlib.Omega.{arith}
-use Rattle.frame_pairs.proofs.Escaping.{base-past, base-before}
+use Rattle.frame_pairs.proofs.PairWalk.{base-past, base-before}
 
 add-result : tie.Need-add-result
 add-result c = search needs

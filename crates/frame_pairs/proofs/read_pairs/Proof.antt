@@ -8,9 +8,11 @@ use lib.ListN.{length, length-set}
 use denote.Ref.{now}
 use Rattle.coder_tables.specs.Layout.{byLevel}
 use Rattle.frame_bits.specs.Read.{value, cause}
-use Rattle.frame_pairs.specs.Pairs.{pairOf, pairGiven, baseOf, pairsOf}
+use Rattle.frame_pair.specs.Pair.{pairOf, pairGiven}
+use Rattle.frame_pairs.specs.Pairs.{baseOf, pairsOf}
 use Rattle.frame_coder.specs.Sound.{Sound}
-use Rattle.frame_pairs.specs.Sound.{Room, Roomy}
+use Rattle.frame_pair.specs.Sound.{Room}
+use Rattle.frame_pairs.specs.Sound.{Roomy}
 use Rattle.frame_pairs.proofs.PairWalk.{length-store, roomy-store, pairs-done, pairs-stop, pairs-more}
 use borrow.Author.Needs.{needs}
 

@@ -1,8 +1,8 @@
 -- `frame::pairs::cap` meets its contract. By the two cases of the level. Assumes nothing.
-use Rattle.frame_pairs.proofs.cap.Statement.{statement}
-use Rattle.frame_pairs.proofs.cap.Tie as tie
+use Rattle.frame_pair.proofs.cap.Statement.{statement}
+use Rattle.frame_pair.proofs.cap.Tie as tie
 use native.Mathlib.Omega.{arith}
-use Rattle.frame_pairs.proofs.Escaping.{capped-low, capped-high}
+use Rattle.frame_pair.proofs.Escaping.{capped-low, capped-high}
 
 returns : tie.Need-returns
 returns c = (capped-low (c .before .args .level) (c .if1 .taken), omega arith)

@@ -1,10 +1,10 @@
 -- `frame::pairs::row_of` meets its contract. The entry that the lookup names. Assumes nothing.
 use borrow.Author.Needs.{needs}
-use Rattle.frame_pairs.proofs.row_of.Statement.{statement}
-use Rattle.frame_pairs.proofs.row_of.Tie as tie
+use Rattle.frame_pair.proofs.row_of.Statement.{statement}
+use Rattle.frame_pair.proofs.row_of.Tie as tie
 use native.Mathlib.Omega.{arith}
 use denote.Ref.{now}
-use Rattle.frame_pairs.proofs.Escaping.{row-is}
+use Rattle.frame_pair.proofs.Escaping.{row-is}
 
 cap-requires : tie.Need-cap-requires
 cap-requires c κs = search needs

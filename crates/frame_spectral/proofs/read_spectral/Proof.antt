@@ -1,16 +1,17 @@
 -- `frame::read_spectral` meets its contract. Assumes nothing.
 use borrow.Author.Needs.{needs}
-use Rattle.frame.proofs.read_spectral.Statement.{statement}
-use Rattle.frame.proofs.read_spectral.Tie as tie
+use Rattle.frame_spectral.proofs.read_spectral.Statement.{statement}
+use Rattle.frame_spectral.proofs.read_spectral.Tie as tie
 use mathlib.Core.Path.{_≡_, refl, sym, ap, _∙_}
 use native.Mathlib.Omega.{arith}
 use denote.Ref.{now}
 use Rattle.frame_bits.specs.Read.{Read, value}
-use Rattle.frame_pairs.specs.Pairs.{Streams, Spectrum, pairsGiven}
+use Rattle.frame_pair.specs.Pair.{Streams}
+use Rattle.frame_pairs.specs.Pairs.{Spectrum, pairsGiven}
 use Rattle.frame_residual.specs.Residual.{leftGiven}
 use Rattle.frame_pairs.specs.declared.PairsRead.{PairsRead}
 use Rattle.frame_residual.specs.declared.Left.{Left}
-use Rattle.frame.proofs.WholeFrame.{tables, lookups, roomy-zeros, pairsAt, pairs-at, pairs-refused, left-refused, spectral-value, spectral-is}
+use Rattle.frame_spectral.proofs.SpectralSteps.{tables, lookups, roomy-zeros, pairsAt, pairs-at, pairs-refused, left-refused, spectral-value, spectral-is}
 
 -- the places that several needs look back to
 abbrev entry : tie.After-rate-offset → tie.Start

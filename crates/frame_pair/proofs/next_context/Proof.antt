@@ -1,10 +1,10 @@
 -- `frame::pairs::next_context` meets its contract. By the two cases of the capped level. Assumes nothing.
 use borrow.Author.Needs.{needs}
-use Rattle.frame_pairs.proofs.next_context.Statement.{statement}
-use Rattle.frame_pairs.proofs.next_context.Tie as tie
+use Rattle.frame_pair.proofs.next_context.Statement.{statement}
+use Rattle.frame_pair.proofs.next_context.Tie as tie
 use Prim.Native.Nat.{_+_, _*_, _/_, _%_, _≤_}
 use native.Mathlib.Omega.{arith}
-use Rattle.frame_pairs.proofs.Escaping.{weight, context-low, context-high}
+use Rattle.frame_pair.proofs.Escaping.{weight, context-low, context-high}
 
 cap-requires : tie.Need-cap-requires
 cap-requires c κs = search needs

@@ -1,11 +1,11 @@
 -- `frame::pairs::above` meets its contract. The shift loses nothing. Assumes nothing.
 use borrow.Author.Needs.{needs}
-use Rattle.frame_pairs.proofs.above.Statement.{statement}
-use Rattle.frame_pairs.proofs.above.Tie as tie
+use Rattle.frame_pair.proofs.above.Statement.{statement}
+use Rattle.frame_pair.proofs.above.Tie as tie
 use native.Mathlib.Omega.{arith}
 use Prim.Native.Nat.{ℕ, _+_}
 use mathlib.Core.Path.{ap}
-use Rattle.frame_pairs.proofs.Escaping.{shl-is, above-small}
+use Rattle.frame_pair.proofs.Escaping.{shl-is, above-small}
 
 shl-result : tie.Need-shl-result
 shl-result c = search needs

@@ -1,17 +1,17 @@
 -- `frame::pairs::read_pair` meets its contract. `rest` is the pair behind its last symbol. Assumes nothing.
 use borrow.Author.Needs.{needs}
-use Rattle.frame_pairs.proofs.read_pair.Statement.{statement}
-use Rattle.frame_pairs.proofs.read_pair.Tie as tie
+use Rattle.frame_pair.proofs.read_pair.Statement.{statement}
+use Rattle.frame_pair.proofs.read_pair.Tie as tie
 use mathlib.Core.Path.{_≡_, sym, ap, _∙_}
 use Prim.Native.Nat.{_+_, _/_, _%_, _≤_, _<_}
 use native.Mathlib.Omega.{arith}
 use denote.Ref.{now}
 use Rattle.coder_tables.specs.Layout.{byLevel}
 use Rattle.frame_bits.specs.Read.{value, cause}
-use Rattle.frame_pairs.specs.Pairs.{lastOf, signOf, signedOf, pairOf}
+use Rattle.frame_pair.specs.Pair.{lastOf, signOf, signedOf, pairOf}
 use Rattle.frame_coder.specs.Sound.{Sound}
-use Rattle.frame_pairs.specs.Sound.{Built}
-use Rattle.frame_pairs.proofs.Escaping.{room, pair-stop, pair-signed, signed-first, signed-second, signed-crossed, signed-read}
+use Rattle.frame_pair.specs.Sound.{Built}
+use Rattle.frame_pair.proofs.Escaping.{room, pair-stop, pair-signed, signed-first, signed-second, signed-crossed, signed-read}
 
 read-last-requires : tie.Need-read-last-requires
 read-last-requires c κs = search needs

@@ -1,14 +1,14 @@
 -- `frame::pairs::read_plane` meets its contract. The bits late, missing, or both there; each makes the value grow. Assumes nothing.
 use borrow.Author.Needs.{needs}
-use Rattle.frame_pairs.proofs.read_plane.Statement.{statement}
-use Rattle.frame_pairs.proofs.read_plane.Tie as tie
+use Rattle.frame_pair.proofs.read_plane.Statement.{statement}
+use Rattle.frame_pair.proofs.read_plane.Tie as tie
 use mathlib.Core.Path.{_≡_, sym, ap, _∙_}
 use Prim.Native.Nat.{_<_}
 use native.Mathlib.Omega.{arith}
 use denote.Ref.{now}
 use Rattle.frame_bits.specs.Read.{value, cause}
 use Rattle.frame_bits.specs.Bits.{readBit}
-use Rattle.frame_pairs.proofs.Escaping.{grown, delayed, plane-late, plane-first, plane-second, plane-both}
+use Rattle.frame_pair.proofs.Escaping.{grown, delayed, plane-late, plane-first, plane-second, plane-both}
 
 returns : tie.Need-returns
 returns c =

@@ -17,14 +17,14 @@ use Rattle.coder_tables.proofs.LayoutRules.{by-level-at}
 use Rattle.frame_bits.specs.Read.{Read, value, cause}
 use Rattle.frame_bits.specs.Bits.{readBit}
 use Rattle.frame_coder.specs.Symbol.{symbolOf}
-use Rattle.frame_pairs.specs.Pairs.{Streams, Values, capped, rowOf, planeOf, lastOf, signOf, contextOf, signedOf, pairOf, baseOf}
-use Rattle.frame_pairs.specs.Sound.{Built, Room, GoodSign}
+use Rattle.frame_pair.specs.Pair.{Streams, Values, capped, rowOf, planeOf, lastOf, signOf, contextOf, signedOf, pairOf}
+use Rattle.frame_pair.specs.Sound.{Built, Room, GoodSign}
 use Rattle.frame_bits.specs.Sound.{GoodBit}
 use Rattle.frame_bits.specs.declared.Bits.{Bits}
 use Rattle.frame_bits.specs.declared.Bits.the-variants as bits
 use Rattle.frame_coder.specs.declared.Coder.{Coder}
-use Rattle.frame_pairs.specs.declared.Last.{Last}
-use Rattle.frame_pairs.specs.declared.Pair.{Pair}
+use Rattle.frame_pair.specs.declared.Last.{Last}
+use Rattle.frame_pair.specs.declared.Pair.{Pair}
 
 -- ---- values
 
@@ -122,12 +122,6 @@ pub context-high : (c a b level l : ℕ) → l ≡ capped level → 1 < l → c 
 context-high c a b level l e h =
     subst (λ (k : ℕ). c % 16 * 16 + (12 + l) ≡ c % 16 * 16 + cond (leb k 1) (1 + (a + b) * (k + 1)) (12 + k)) e
     (rw (lt-leb l 1 h))
-
-pub base-past : (context offset half k : ℕ) → half < k → context + offset + 256 ≡ baseOf context offset half k
-base-past context offset half k h = rw (lt-ltb half k h)
-
-pub base-before : (context offset half k : ℕ) → k ≤ half → context + offset ≡ baseOf context offset half k
-base-before context offset half k h = rw (le-ltb half k h) (sym (add-zero (context + offset)))
 
 -- ---- an escape's bits
 

@@ -1,6 +1,6 @@
 -- `frame::pairs::read_last` meets its contract. The loop has the rest of the escapes equal to the whole. Assumes nothing.
-use Rattle.frame_pairs.proofs.read_last.Statement.{statement}
-use Rattle.frame_pairs.proofs.read_last.Tie as tie
+use Rattle.frame_pair.proofs.read_last.Statement.{statement}
+use Rattle.frame_pair.proofs.read_last.Tie as tie
 use mathlib.Core.Path.{_≡_, refl, sym, ap, _∙_}
 use Prim.Native.Nat.{_+_, _-_, _≤_}
 use native.Mathlib.Omega.{arith}
@@ -8,10 +8,10 @@ use denote.Ref.{now}
 use Rattle.coder_tables.specs.Layout.{byLevel}
 use Rattle.frame_bits.specs.Read.{value, cause}
 use Rattle.frame_coder.specs.Symbol.{symbolOf, symbolGiven}
-use Rattle.frame_pairs.specs.Pairs.{rowOf, lastOf}
+use Rattle.frame_pair.specs.Pair.{rowOf, lastOf}
 use Rattle.frame_coder.specs.Sound.{Sound}
-use Rattle.frame_pairs.specs.Sound.{Built}
-use Rattle.frame_pairs.proofs.Escaping.{built-none, row-at, last-none, last-stop, last-found, last-out, last-more}
+use Rattle.frame_pair.specs.Sound.{Built}
+use Rattle.frame_pair.proofs.Escaping.{built-none, row-at, last-none, last-stop, last-found, last-out, last-more}
 use borrow.Author.Needs.{needs}
 
 abbrev Inv-loop : tie.InvT-loop

@@ -1,11 +1,11 @@
 -- `frame::pairs::read_sign` meets its contract. No bit for 0. Assumes nothing.
 use borrow.Author.Needs.{needs}
-use Rattle.frame_pairs.proofs.read_sign.Statement.{statement}
-use Rattle.frame_pairs.proofs.read_sign.Tie as tie
+use Rattle.frame_pair.proofs.read_sign.Statement.{statement}
+use Rattle.frame_pair.proofs.read_sign.Tie as tie
 use mathlib.Core.Path.{sym, _∙_}
 use native.Mathlib.Omega.{arith}
 use denote.Ref.{now}
-use Rattle.frame_pairs.proofs.Escaping.{sign-none, sign-some, sign-good}
+use Rattle.frame_pair.proofs.Escaping.{sign-none, sign-some, sign-good}
 
 returns : tie.Need-returns
 returns c =

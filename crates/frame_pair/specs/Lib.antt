@@ -1,0 +1,3 @@
+-- Definitions.
+pub mod Pair
+pub mod Sound

@@ -1,0 +1,3 @@
+-- Definitions.
+pub mod Sound
+pub mod Spectral

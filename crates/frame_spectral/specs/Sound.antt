@@ -1,0 +1,13 @@
+-- What the reader's own steps promise each other beside their definitions: bounds of what is read, and cursors that stay inside.
+-- No public promise but `Bounded` rests on a line of this. Assumes nothing.
+use mathlib.Core.List.{List}
+use Prim.Native.Nat.{ℕ, _+_, _*_, _≤_}
+use lib.IntN.{ℤ}
+use Rattle.frame_spectral.specs.declared.SpectralRead.{SpectralRead}
+use Rattle.frame_spectral.specs.declared.SpectralRead.the-variants as spectralRead
+use Rattle.frame_pairs.specs.Sound.{Small}
+
+-- the pairs and what follows them: "never above 18 + 7 x last line" symbols, values in range
+abbrev pub GoodSpectral : ℕ → SpectralRead → List ℤ → Type 0
+GoodSpectral last (spectralRead.Value symbols number p) lines = (symbols ≤ 18 + 7 * last) × Small lines
+GoodSpectral last (spectralRead.Cause k) lines = (1 ≤ k) × (k ≤ 7)
