@@ -4,13 +4,14 @@
 ghost use mathlib.Core.Path.{_≡_};
 ghost use Prim.Native.Nat.{_/_};
 ghost use lib.ListN.{length};
-ghost use Rattle.frame_settings.specs.Settings.{Known, Sized, lineCount};
+ghost use Rattle.frame_settings.specs.Settings.{Known, Sized};
 ghost use Rattle.frame_tns.specs.Tns.{unused};
 ghost use Rattle.frame.specs.Frame.{judgedOf, judgedSized, judgedRead, arithmeticFrom, givenOf, spectrumOf, residualAfter, told};
 ghost use Rattle.frame_side.specs.Sound.{Sided};
 ghost use Rattle.frame.specs.Sound.{Bounded};
 use frame_settings::Rate;
 use frame_settings::Setting;
+pub use frame_settings::line_count;
 pub use frame_side::Flags;
 pub use frame_side::Head;
 pub use frame_side::Shape;
@@ -45,17 +46,6 @@ pub struct Reading {
     pub answer: Answer,
     pub tns_coefficients_0: [u8; 8],
     pub tns_coefficients_1: [u8; 8],
-}
-
-// NE, the number of lines at a rate; 0 where the rate is out of range.
-pub fn line_count(khz: u32) -> usize
-    ensures { λ r. ⌜ r ≡ lineCount khz ⌝ }
-{
-    let known = frame_settings::rate_setting(khz);
-    match known {
-        Rate::Known(r) => r.lines,
-        Rate::Unknown => 0,
-    }
 }
 
 fn refused(answer: Answer) -> Reading

@@ -1,7 +1,7 @@
 // What the rate and the frame's length give (document 01, "Reading a frame"): each function equals its definition in specs/Settings.antt.
 ghost use mathlib.Core.Path.{_≡_};
 ghost use Prim.Native.Nat.{_≤_, _<_};
-ghost use Rattle.frame_settings.specs.Settings.{Known, KnownRate, rateOf, rateOffset, weighting};
+ghost use Rattle.frame_settings.specs.Settings.{Known, KnownRate, lineCount, rateOf, rateOffset, weighting};
 
 // The rate's index, the line count NE, and the bits of the fields bandwidth and last pair.
 pub struct Setting {
@@ -57,4 +57,15 @@ pub fn tns_weighting(bytes: usize) -> usize
     ensures { λ r. ⌜ (r ≡ weighting bytes) × (r < 2) ⌝ }
 {
     if 8 * bytes < 480 { 1 } else { 0 }
+}
+
+// NE, the number of lines at a rate; 0 where the rate is out of range.
+pub fn line_count(khz: u32) -> usize
+    ensures { λ r. ⌜ r ≡ lineCount khz ⌝ }
+{
+    let known = rate_setting(khz);
+    match known {
+        Rate::Known(r) => r.lines,
+        Rate::Unknown => 0,
+    }
 }

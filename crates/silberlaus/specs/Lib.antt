@@ -1,4 +1,2 @@
 -- What the face's contracts cite beside the definitions of `slot`, `frame` and `record`, and document 01's small sums. Assumes nothing.
-pub mod Frames
-pub mod Records
 pub mod SmallSums

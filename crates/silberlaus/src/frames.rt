@@ -1,143 +1,10 @@
-// A frame read into its fields under C names, lent as it is or as an entry of a record, and the number of lines. It stands over `frame` and `record`.
+// A frame read into its fields under C names, lent as it is or as an entry of a record, and the number of lines. It stands over `silberlaus_frames`.
 ghost use mathlib.Core.Path.{_≡_};
 ghost use lib.ListN.{length};
 ghost use Rattle.frame_settings.specs.Settings.{lineCount};
-ghost use Rattle.frame.specs.Frame.{judgedOf, noFields, refusedWith, givenOf, spectrumOf, residualAfter, told};
-ghost use Rattle.silberlaus.specs.Frames.{given, frameGiven, judgedEntry, missing, Bounded};
-use frame::Answer;
-use frame::Fields;
-use frame::Flags;
-use frame::Head;
-use frame::Reading;
-use frame::Shape;
-use frame::Side;
-use frame::Tail;
-use record::Found;
-
-// C's silberlaus_frame.
-#[repr(C)]
-pub struct SilberlausFrame {
-    pub number: u8,
-    pub cause: u8,
-    pub bandwidth: u8,
-    pub lsb_mode: u8,
-    pub gain: u8,
-    pub tns_flag_0: u8,
-    pub tns_flag_1: u8,
-    pub pitch_present: u8,
-    pub shape_low: u8,
-    pub shape_high: u8,
-    pub shape_mode: u8,
-    pub shape_gain: u8,
-    pub shape_sign: u8,
-    pub filter_flag: u8,
-    pub noise_level: u8,
-    pub tns_order_0: u8,
-    pub tns_order_1: u8,
-    pub tns_coefficients_0: [u8; 8],
-    pub tns_coefficients_1: [u8; 8],
-    pub last_line: u16,
-    pub pitch_index: u16,
-    pub residual_bits: u16,
-    pub symbols: u16,
-    pub shape_joint: u32,
-}
-
-// The fields of a refusal: all 0.
-fn no_fields() -> Fields
-    ensures { λ r. ⌜ r ≡ noFields ⌝ }
-{
-    Fields {
-        side: Side {
-            head: Head {
-                bandwidth: 0,
-                last_line: 0,
-                lsb_mode: 0,
-                gain: 0,
-            },
-            flags: Flags {
-                tns_0: 0,
-                tns_1: 0,
-                pitch_present: 0,
-            },
-            shape: Shape {
-                low: 0,
-                high: 0,
-                mode: 0,
-                gain: 0,
-                sign: 0,
-                joint: 0,
-            },
-            tail: Tail {
-                filter_flag: 0,
-                pitch_index: 0,
-                noise_level: 0,
-            },
-        },
-        tns_order_0: 0,
-        tns_order_1: 0,
-        residual_bits: 0,
-        symbols: 0,
-    }
-}
-
-// The C struct of a number, a cause and the fields.
-fn flattened(number: u8, cause: u8, f: Fields, first: [u8; 8], second: [u8; 8]) -> SilberlausFrame
-    ensures { λ r. ⌜ frameGiven r ≡ given number cause f first second ⌝ }
-{
-    let h = f.side.head;
-    let g = f.side.flags;
-    let q = f.side.shape;
-    let t = f.side.tail;
-    SilberlausFrame {
-        number,
-        cause,
-        bandwidth: h.bandwidth,
-        lsb_mode: h.lsb_mode,
-        gain: h.gain,
-        tns_flag_0: g.tns_0,
-        tns_flag_1: g.tns_1,
-        pitch_present: g.pitch_present,
-        shape_low: q.low,
-        shape_high: q.high,
-        shape_mode: q.mode,
-        shape_gain: q.gain,
-        shape_sign: q.sign,
-        filter_flag: t.filter_flag,
-        noise_level: t.noise_level,
-        tns_order_0: f.tns_order_0,
-        tns_order_1: f.tns_order_1,
-        tns_coefficients_0: first,
-        tns_coefficients_1: second,
-        last_line: h.last_line,
-        pitch_index: t.pitch_index,
-        residual_bits: f.residual_bits,
-        symbols: f.symbols,
-        shape_joint: q.joint,
-    }
-}
-
-// A refusal that no frame was read for.
-fn unread(number: u8) -> SilberlausFrame
-    ensures { λ r. ⌜ frameGiven r ≡ refusedWith number 0 ⌝ }
-{
-    flattened(number, 0, no_fields(), [0; 8], [0; 8])
-}
-
-// The answer of the frame reader, by document 01's numbers.
-fn numbered(r: Reading) -> SilberlausFrame
-    ensures { λ o. ⌜ frameGiven o ≡ told r ⌝ }
-{
-    let first = r.tns_coefficients_0;
-    let second = r.tns_coefficients_1;
-    let answer = r.answer;
-    match answer {
-        Answer::Read(f) => flattened(0, 0, f, first, second),
-        Answer::Setting => flattened(1, 0, no_fields(), first, second),
-        Answer::Length => flattened(2, 0, no_fields(), first, second),
-        Answer::BitError(k) => flattened(5, k, no_fields(), first, second),
-    }
-}
+ghost use Rattle.frame.specs.Frame.{judgedOf, givenOf, spectrumOf, residualAfter};
+ghost use Rattle.silberlaus_frames.specs.Frames.{frameGiven, judgedEntry, Bounded};
+use silberlaus_frames::SilberlausFrame;
 
 #[no_mangle]
 pub extern "C" fn silberlaus_line_count(khz: u32) -> usize
@@ -158,22 +25,9 @@ pub extern "C" fn silberlaus_read_frame(
     ensures { λ r. ⌜ now (residual .exit) ≡ residualAfter (judgedOf khz (now (bytes .entry)) (length (now (spectrum .entry))) (length (now (residual .entry)))) (now (residual .entry)) ⌝ }
     ensures { λ r. ⌜ Bounded (r .number) (r .cause) (r .symbols) (r .«last_line») (now (spectrum .exit)) ⌝ }
 {
-    numbered(frame::read(khz, bytes, spectrum, residual))
+    silberlaus_frames::read_frame(khz, bytes, spectrum, residual)
 }
 
-// Why there is no frame at a place: 7 or 1.
-fn why_missing(bytes: &[u8], place: usize) -> u8
-    ensures { λ r. ⌜ r ≡ missing (now (bytes .entry)) place ⌝ }
-{
-    let found = record::entry(bytes, place);
-    match found {
-        Found::NotRecord => 7,
-        Found::NoPlace => 1,
-        Found::At(_) => 0,
-    }
-}
-
-// The frame of the entry at a place, a part of the record that goes on to the frame reader uncopied.
 #[no_mangle]
 pub extern "C" fn silberlaus_read_entry(
     bytes: &[u8],
@@ -187,19 +41,5 @@ pub extern "C" fn silberlaus_read_entry(
     ensures { λ r. ⌜ now (residual .exit) ≡ residualAfter (judgedEntry khz (now (bytes .entry)) place (length (now (spectrum .entry))) (length (now (residual .entry)))) (now (residual .entry)) ⌝ }
     ensures { λ r. ⌜ Bounded (r .number) (r .cause) (r .symbols) (r .«last_line») (now (spectrum .exit)) ⌝ }
 {
-    let lines = frame::line_count(khz);
-    if lines == 0 {
-        return unread(1);
-    }
-    if spectrum.len() != lines {
-        return unread(2);
-    }
-    if residual.len() != lines {
-        return unread(2);
-    }
-    let part = record::frame(bytes, place);
-    if part.len() == 0 {
-        return unread(why_missing(bytes, place));
-    }
-    numbered(frame::read(khz, part, spectrum, residual))
+    silberlaus_frames::read_entry(bytes, place, khz, spectrum, residual)
 }

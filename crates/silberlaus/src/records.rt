@@ -1,46 +1,17 @@
-// The session record under C names: new, entries, entry and add. It stands over `record`.
+// The session record under C names: new, entries, entry and add. It stands over `silberlaus_records`.
 ghost use mathlib.Core.Path.{_≡_};
 ghost use Rattle.record.specs.Answers.{newNumber, newBuffer, entriesAnswer, entryAnswer, addAnswer, addBuffer};
-ghost use Rattle.silberlaus.specs.Records.{answer, entryGiven, added, CountMeans, StoredBy};
-use record::Added;
-use record::Counted;
-use record::Found;
-use record::Made;
-
-// C's silberlaus_entries.
-#[repr(C)]
-pub struct SilberlausEntries {
-    pub number: u8,
-    pub entries: u32,
-}
-
-// C's silberlaus_entry.
-#[repr(C)]
-pub struct SilberlausEntry {
-    pub number: u8,
-    pub request: u8,
-    pub count: u8,
-    pub length: u16,
-    pub start: u32,
-}
-
-// C's silberlaus_added.
-#[repr(C)]
-pub struct SilberlausAdded {
-    pub number: u8,
-    pub used: u32,
-}
+ghost use Rattle.silberlaus_records.specs.Records.{answer, entryGiven, added, CountMeans, StoredBy};
+use silberlaus_records::SilberlausAdded;
+use silberlaus_records::SilberlausEntries;
+use silberlaus_records::SilberlausEntry;
 
 #[no_mangle]
 pub extern "C" fn silberlaus_record_new(buffer: &mut [u8]) -> u8
     ensures { λ r. ⌜ r ≡ newNumber (now (buffer .entry)) ⌝ }
     ensures { λ r. ⌜ now (buffer .exit) ≡ newBuffer (now (buffer .entry)) ⌝ }
 {
-    let made = record::new(buffer);
-    match made {
-        Made::Empty => 0,
-        Made::NoRoom => 6,
-    }
+    silberlaus_records::new(buffer)
 }
 
 #[no_mangle]
@@ -48,55 +19,14 @@ pub extern "C" fn silberlaus_record_entries(bytes: &[u8]) -> SilberlausEntries
     ensures { λ r. ⌜ answer (r .number) (r .entries) ≡ entriesAnswer (now (bytes .entry)) ⌝ }
     ensures { λ r. ⌜ CountMeans (r .number) (r .entries) (now (bytes .entry)) ⌝ }
 {
-    let counted = record::entries(bytes);
-    match counted {
-        Counted::Entries(n) => SilberlausEntries {
-            number: 0,
-            entries: n,
-        },
-        Counted::NotRecord => SilberlausEntries {
-            number: 7,
-            entries: 0,
-        },
-    }
-}
-
-// A refusal: its number, and zero in every other field.
-fn no_entry(number: u8) -> SilberlausEntry
-    ensures { λ r. ⌜ r ≡ record { number = number; request = 0; count = 0; length = 0; start = 0 } ⌝ }
-{
-    SilberlausEntry {
-        number,
-        request: 0,
-        count: 0,
-        length: 0,
-        start: 0,
-    }
+    silberlaus_records::entries(bytes)
 }
 
 #[no_mangle]
 pub extern "C" fn silberlaus_record_entry(bytes: &[u8], place: usize) -> SilberlausEntry
     ensures { λ r. ⌜ entryGiven (r .number) (r .request) (r .count) (r .length) (r .start) ≡ entryAnswer (now (bytes .entry)) place ⌝ }
 {
-    let found = record::entry(bytes, place);
-    match found {
-        Found::At(e) => SilberlausEntry {
-            number: 0,
-            request: e.request,
-            count: e.count,
-            length: e.length,
-            start: e.start,
-        },
-        Found::NotRecord => no_entry(7),
-        Found::NoPlace => no_entry(1),
-    }
-}
-
-// A refusal: its number, and no used length.
-fn not_added(number: u8) -> SilberlausAdded
-    ensures { λ r. ⌜ r ≡ record { number = number; used = 0 } ⌝ }
-{
-    SilberlausAdded { number, used: 0 }
+    silberlaus_records::entry(bytes, place)
 }
 
 #[no_mangle]
@@ -112,11 +42,5 @@ pub extern "C" fn silberlaus_record_add(
     ensures { λ r. ⌜ now (buffer .exit) ≡ addBuffer (now (buffer .entry)) used (added (now (frame .entry)) request count) length ⌝ }
     ensures { λ r. ⌜ StoredBy (r .number) (r .used) (now (buffer .entry)) (now (buffer .exit)) used (added (now (frame .entry)) request count) ⌝ }
 {
-    let added = record::add(buffer, used, frame, request, count, length);
-    match added {
-        Added::Used(n) => SilberlausAdded { number: 0, used: n },
-        Added::BadSetting => not_added(1),
-        Added::NotRecord => not_added(7),
-        Added::NoRoom => not_added(6),
-    }
+    silberlaus_records::add(buffer, used, frame, request, count, length)
 }

@@ -1,0 +1,163 @@
+-- From the answer of the frame reader to that of the C face, and what reading an entry of a record answers, case by case.
+-- Assumes nothing.
+use mathlib.Core.Path.{_≡_, refl, sym, ap, _∙_}
+use mathlib.Core.Bool.{Bool, true, false, _&&_, cond, and-false}
+use mathlib.Core.Option.{Option, none, some}
+use mathlib.Core.List.{List, [], _∷_}
+use Prim.Native.Nat.{ℕ, zero, suc, _≤_, _<_}
+use native.Mathlib.Omega.{arith}
+use lib.Dec.{leb, ltb, eqb}
+use lib.ListN.{length}
+use lib.IntN.{ℤ}
+use borrow.Author.Tests.{le-leb, ltb-true, ltb-false, eq-eqb, ne-eqb}
+use Rattle.frame_settings.specs.Settings.{setting, rateOf, linesAt, lineCount}
+use Rattle.frame.specs.Frame.{Judged, refused, judgedRead, judgedAt, judgedOf, frameOf, Given, answered, told, givenOf, refusedWith, spectrumOf, residualAfter}
+use Rattle.frame.specs.Sound as sound
+use Rattle.frame_settings.specs.declared.Setting.{Setting}
+use Rattle.frame_settings.specs.declared.Rate.{Rate}
+use Rattle.frame_settings.specs.declared.Rate.the-variants as rate
+use Rattle.frame.specs.declared.Reading.{Reading}
+use Rattle.frame.specs.declared.Answer.{Answer}
+use Rattle.frame.specs.declared.Answer.the-variants as answer
+use Rattle.record_bytes.specs.Layout.{RecordEntry}
+use Rattle.record_bytes.specs.Reading.{readRecord}
+use Rattle.record.specs.Answers.{frameAt, entryOf, entryAnswer, framePart}
+use Rattle.record.specs.Answers as part
+use Rattle.record_bytes.proofs.Numbers.{Bytes}
+use Rattle.record.proofs.Answered.{frame-sized, frame-past, frame-missing}
+use Rattle.silberlaus_frames.specs.Frames.{frameGiven, judgedPlace, judgedIn, judgedEntry, missing, Bounded}
+use Rattle.silberlaus_frames.specs.declared.SilberlausFrame.{SilberlausFrame}
+
+-- ---- the bounds, over the number
+
+number-is : {a b : Given} → a ≡ b → a .number ≡ b .number
+number-is e = ap (λ (x : Given). x .number) e
+
+cause-is : {a b : Given} → a ≡ b → a .cause ≡ b .cause
+cause-is e = ap (λ (x : Given). x .cause) e
+
+symbols-are : {a b : Given} → a ≡ b → a .fields .symbols ≡ b .fields .symbols
+symbols-are e = ap (λ (x : Given). x .fields .symbols) e
+
+last-is : {a b : Given} → a ≡ b → a .fields .side .head .«last_line» ≡ b .fields .side .head .«last_line»
+last-is e = ap (λ (x : Given). x .fields .side .head .«last_line») e
+
+bounded : (a : Answer) (first second : List ℕ) (o : SilberlausFrame) (lines : List ℤ) → frameGiven o ≡ answered a first second → sound.Bounded a lines
+    → Bounded (o .number) (o .cause) (o .symbols) (o .«last_line») lines
+bounded (answer.Read f) first second o lines e h = rw (number-is e, symbols-are e, last-is e) h
+bounded answer.Setting first second o lines e h = rw (number-is e, cause-is e) (omega arith)
+bounded answer.Length first second o lines e h = rw (number-is e, cause-is e) (omega arith)
+bounded (answer.BitError k) first second o lines e h = rw (number-is e, cause-is e) (h .1)
+
+bounded-at : (n : ℕ) → 1 ≤ n → (symbols last : ℕ) (lines : List ℤ) → Bounded n 0 symbols last lines
+bounded-at zero h symbols last lines = absurd (omega arith)
+bounded-at (suc n) h symbols last lines = omega arith
+
+-- ---- a return, from what was judged
+
+pub refusal : (j : Judged) (n : ℕ) (o : SilberlausFrame) (lines : List ℤ) (bits : List ℕ) → j ≡ refused n 0 → 1 ≤ n → frameGiven o ≡ refusedWith n 0
+    → (frameGiven o ≡ givenOf j)
+    × ((lines ≡ spectrumOf j lines) × ((bits ≡ residualAfter j bits) × Bounded (o .number) (o .cause) (o .symbols) (o .«last_line») lines))
+unfolding givenOf
+refusal j n o lines bits e h g =
+    rw e (g, (refl, (refl, rw (number-is g, cause-is g) (bounded-at n h (o .symbols) (o .«last_line») lines))))
+
+pub reading : (j k : Judged) (r : Reading) (o : SilberlausFrame) (lines lines′ : List ℤ) (bits bits′ : List ℕ) → k ≡ j
+    → frameGiven o ≡ told r → told r ≡ givenOf k → lines′ ≡ spectrumOf k lines → bits′ ≡ residualAfter k bits → sound.Bounded (r .answer) lines′
+    → (frameGiven o ≡ givenOf j)
+    × ((lines′ ≡ spectrumOf j lines) × ((bits′ ≡ residualAfter j bits) × Bounded (o .number) (o .cause) (o .symbols) (o .«last_line») lines′))
+reading j k r o lines lines′ bits bits′ e g t x y b =
+    rw (← e) (g ∙ t, (x, (y, bounded (r .answer) (r .«tns_coefficients_0») (r .«tns_coefficients_1») o lines′ g b)))
+
+-- ---- the rate and the two buffers
+
+-- the setting that five tests choose
+abbrev chosen : Bool → Bool → Bool → Bool → Bool → Rate
+chosen a b c d e =
+    cond a (setting 0 80 0 6) (cond b (setting 1 160 1 7) (cond c (setting 2 240 2 7) (cond d (setting 3 320 2 8) (cond e (setting 4 400 3 8) rate.Unknown))))
+
+no-lines : (a b c d e : Bool)
+    → linesAt (chosen a b c d e) ≡ 0 → chosen a b c d e ≡ rate.Unknown
+no-lines true b c d e z = absurd (omega arith)
+no-lines false true c d e z = absurd (omega arith)
+no-lines false false true d e z = absurd (omega arith)
+no-lines false false false true e z = absurd (omega arith)
+no-lines false false false false true z = absurd (omega arith)
+no-lines false false false false false z = refl
+
+-- NE is 0 only where the rate is out of range
+rate-unknown : (khz : ℕ) → linesAt (rateOf khz) ≡ 0 → rateOf khz ≡ rate.Unknown
+unfolding rateOf
+rate-unknown khz z = no-lines (eqb khz 8) (eqb khz 16) (eqb khz 24) (eqb khz 32) (eqb khz 48) z
+
+other-spectrum-in : (o : Rate) (s : List ℕ) (place x b : ℕ) → (linesAt o ≡ 0 → ⊥) → (x ≡ linesAt o → ⊥) → judgedIn o s place x b ≡ refused 2 0
+other-spectrum-in rate.Unknown s place x b h k = absurd (h refl)
+other-spectrum-in (rate.Known r) s place x b h k = simp (ne-eqb x (r .lines) k)
+
+other-residual-in : (o : Rate) (s : List ℕ) (place x b : ℕ) → (linesAt o ≡ 0 → ⊥) → (b ≡ linesAt o → ⊥) → judgedIn o s place x b ≡ refused 2 0
+other-residual-in rate.Unknown s place x b h k = absurd (h refl)
+other-residual-in (rate.Known r) s place x b h k = simp (ne-eqb b (r .lines) k, and-false)
+
+-- ---- the record and the place
+
+no-place : (s : List ℕ) (place : ℕ) → Bytes s → (r : Setting) (o : Option (List RecordEntry)) → readRecord s ≡ o → length (part.frameOf o place) ≡ 0
+    → judgedPlace r o place ≡ refused (entryOf o place .number) 0
+no-place s place b r none q z = refl
+no-place s place b r (some es) q z = go (ltb place (length es)) refl
+  where
+    go : (x : Bool) → ltb place (length es) ≡ x → cond x (judgedRead (frameOf (frameAt es place) r)) (refused 1 0) ≡ refused (cond x 0 1) 0
+    go true t = let f = frame-sized s es place b q (ltb-true place (length es) t) in absurd (omega (arith, f .0, z))
+    go false t = refl
+
+at-place : (s : List ℕ) (place : ℕ) → Bytes s → (r : Setting) (x : ℕ) → x ≡ r .lines → (y : ℕ) → y ≡ r .lines
+    → (o : Option (List RecordEntry)) → readRecord s ≡ o → (length (part.frameOf o place) ≡ 0 → ⊥) → judgedAt (rate.Known r) (part.frameOf o place) x y ≡ judgedPlace r o place
+at-place s place b r x e y f none q z = absurd (z refl)
+at-place s place b r x e y f (some es) q z = go (ltb place (length es)) refl
+  where
+    go : (k : Bool) → ltb place (length es) ≡ k
+        → judgedAt (rate.Known r) (frameAt es place) x y ≡ cond k (judgedRead (frameOf (frameAt es place) r)) (refused 1 0)
+    go true t =
+        let n : ℕ = length (frameAt es place) in
+        let h = frame-sized s es place b q (ltb-true place (length es) t) in
+        simp (le-leb 20 n (h .0), le-leb n 400 (h .1), eq-eqb x (r .lines) e, eq-eqb y (r .lines) f)
+    go false t = absurd (z (sym (ap length (frame-past es place (ltb-false place (length es) t)))))
+
+empty-in : (o : Rate) (s : List ℕ) (place x b : ℕ) → Bytes s → (linesAt o ≡ 0 → ⊥) → x ≡ linesAt o → b ≡ linesAt o
+    → length (part.frameOf (readRecord s) place) ≡ 0 → judgedIn o s place x b ≡ refused (entryOf (readRecord s) place .number) 0
+empty-in rate.Unknown s place x b i h e f z = absurd (h refl)
+empty-in (rate.Known r) s place x b i h e f z = simp (eq-eqb x (r .lines) e, eq-eqb b (r .lines) f) (no-place s place i r (readRecord s) refl z)
+
+part-in : (o : Rate) (s : List ℕ) (place x b : ℕ) → Bytes s → (linesAt o ≡ 0 → ⊥) → x ≡ linesAt o → b ≡ linesAt o
+    → (length (part.frameOf (readRecord s) place) ≡ 0 → ⊥) → judgedAt o (part.frameOf (readRecord s) place) x b ≡ judgedIn o s place x b
+part-in rate.Unknown s place x b i h e f z = absurd (h refl)
+part-in (rate.Known r) s place x b i h e f z =
+    at-place s place i r x e b f (readRecord s) refl z ∙ sym (simp (eq-eqb x (r .lines) e, eq-eqb b (r .lines) f))
+
+-- ---- the cases of reading an entry, in the order of the tests
+
+module _ (khz : ℕ) (s : List ℕ) (place x b : ℕ) where
+  pub no-rate : lineCount khz ≡ 0 → judgedEntry khz s place x b ≡ refused 1 0
+  unfolding lineCount judgedEntry
+  no-rate z = ap (λ (o : Rate). judgedIn o s place x b) (rate-unknown khz z)
+
+  pub other-spectrum : (lineCount khz ≡ 0 → ⊥) → (x ≡ lineCount khz → ⊥) → judgedEntry khz s place x b ≡ refused 2 0
+  unfolding lineCount judgedEntry
+  other-spectrum h k = other-spectrum-in (rateOf khz) s place x b h k
+
+  pub other-residual : (lineCount khz ≡ 0 → ⊥) → (b ≡ lineCount khz → ⊥) → judgedEntry khz s place x b ≡ refused 2 0
+  unfolding lineCount judgedEntry
+  other-residual h k = other-residual-in (rateOf khz) s place x b h k
+
+  pub no-frame : Bytes s → (lineCount khz ≡ 0 → ⊥) → x ≡ lineCount khz → b ≡ lineCount khz → (p : List ℕ) → p ≡ framePart s place → length p ≡ 0
+      → (judgedEntry khz s place x b ≡ refused (missing s place) 0) × (1 ≤ missing s place)
+  unfolding lineCount judgedEntry entryAnswer framePart
+  no-frame i h e f p q z =
+      let y : length (part.frameOf (readRecord s) place) ≡ 0 = sym (ap length q) ∙ z in
+      (empty-in (rateOf khz) s place x b i h e f y, frame-missing s place i y)
+
+  -- an entry's frame is read as it stands in the record
+  pub part-read : Bytes s → (lineCount khz ≡ 0 → ⊥) → x ≡ lineCount khz → b ≡ lineCount khz → (p : List ℕ) → p ≡ framePart s place → (length p ≡ 0 → ⊥)
+      → judgedOf khz p x b ≡ judgedEntry khz s place x b
+  unfolding lineCount judgedEntry judgedOf framePart
+  part-read i h e f p q z =
+      ap (λ (l : List ℕ). judgedAt (rateOf khz) l x b) q ∙ part-in (rateOf khz) s place x b i h e f (λ y. z (ap length q ∙ y))

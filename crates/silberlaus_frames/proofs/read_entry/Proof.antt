@@ -1,0 +1,124 @@
+-- `silberlaus_frames::read_entry` meets its contract, test by test in the order of the refusals. Assumes nothing.
+use mathlib.Core.Path.{_≡_}
+use native.Mathlib.Omega.{arith}
+use lib.ListN.{length}
+use denote.Ref.{now}
+use borrow.Author.Needs.{needs}
+use Rattle.frame_settings.specs.Settings.{lineCount}
+use Rattle.record_bytes.proofs.Numbers.{Bytes}
+use Rattle.silberlaus_frames.proofs.read_entry.Statement.{statement}
+use Rattle.silberlaus_frames.proofs.read_entry.Tie as tie
+use Rattle.silberlaus_frames.proofs.Entry.{refusal, reading, no-rate, other-spectrum, other-residual, no-frame, part-read}
+
+-- what is known once the rate and both buffers are tested: the record's bytes, a rate in range, and buffers of its length
+tested : (c : tie.After-frame)
+    → let a = c .before .before .before .before .before .before .before .args in
+    Bytes (now (a .bytes)) × (lineCount (a .khz) ≡ 0 → ⊥) × (length (now (a .spectrum)) ≡ lineCount (a .khz))
+    × (length (now (a .residual)) ≡ lineCount (a .khz))
+tested c =
+    let l = c .before .before .before .before .line-count .ensures in (
+      λ i. omega (arith, c .before .before .before .before .before .before .shared-slice-known .given i),
+      λ z. omega (arith, l, z, c .before .before .before .if1 .left),
+      omega (arith, l, c .before .before .if2 .left),
+      omega (arith, l, c .before .if3 .left),
+    )
+
+line-count-requires : tie.Need-line-count-requires
+line-count-requires c κs = search needs
+
+unread-requires : tie.Need-unread-requires
+unread-requires c κs = search needs
+
+returns : tie.Need-returns
+returns c =
+    let a = c .before .before .before .before .before .args in
+    let l = c .before .before .line-count .ensures in
+    refusal _ 1 (c .unread .result) _ _
+    (no-rate (a .khz) (now (a .bytes)) (a .place) (length (now (a .spectrum))) (length (now (a .residual))) (omega (arith, l, c .before .if1 .taken)))
+    (omega arith) (c .unread .ensures)
+
+unread-requires-2 : tie.Need-unread-requires-2
+unread-requires-2 c κs = search needs
+
+returns-2 : tie.Need-returns-2
+returns-2 c =
+    let a = c .before .before .before .before .before .before .args in
+    let l = c .before .before .before .line-count .ensures in
+    refusal _ 2 (c .unread2 .result) _ _
+    (other-spectrum (a .khz) (now (a .bytes)) (a .place) (length (now (a .spectrum))) (length (now (a .residual)))
+    (λ z. omega (arith, l, z, c .before .before .if1 .left)) (λ z. omega (arith, l, z, c .before .if2 .taken)))
+    (omega arith) (c .unread2 .ensures)
+
+unread-requires-3 : tie.Need-unread-requires-3
+unread-requires-3 c κs = search needs
+
+returns-3 : tie.Need-returns-3
+returns-3 c =
+    let a = c .before .before .before .before .before .before .before .args in
+    let l = c .before .before .before .before .line-count .ensures in
+    refusal _ 2 (c .unread3 .result) _ _
+    (other-residual (a .khz) (now (a .bytes)) (a .place) (length (now (a .spectrum))) (length (now (a .residual)))
+    (λ z. omega (arith, l, z, c .before .before .before .if1 .left)) (λ z. omega (arith, l, z, c .before .if3 .taken)))
+    (omega arith) (c .unread3 .ensures)
+
+frame-requires : tie.Need-frame-requires
+frame-requires c κs = search needs
+
+why-missing-requires : tie.Need-why-missing-requires
+why-missing-requires c κs = search needs
+
+unread-requires-4 : tie.Need-unread-requires-4
+unread-requires-4 c κs = search needs
+
+returns-4 : tie.Need-returns-4
+returns-4 c =
+    let f = c .before .before .before in
+    let a = c .before .before .before .before .before .before .before .before .before .before .args in
+    let t = tested f in
+    let n = no-frame (a .khz) (now (a .bytes)) (a .place) (length (now (a .spectrum))) (length (now (a .residual))) (t .0) (t .1) (t .2) (t .3)
+    (now (f .frame .result)) (f .frame .ensures) (omega (arith, c .before .before .if4 .taken)) in
+    refusal _ _ (c .unread4 .result) _ _ (n .0) (n .1) (rw (c .before .why-missing .ensures) at (c .unread4 .ensures))
+
+read-requires : tie.Need-read-requires
+read-requires c κs = search needs
+
+numbered-requires : tie.Need-numbered-requires
+numbered-requires c κs = search needs
+
+same-length : tie.Need-same-length
+same-length c = search needs
+
+same-length-2 : tie.Need-same-length-2
+same-length-2 c = search needs
+
+returns-5 : tie.Need-returns-5
+returns-5 c =
+    let f = c .before .before .before .before .before .before .before .before in
+    let a = c .before .before .before .before .before .before .before .before .before .before .before .before .before .before .before .args in
+    let r = c .before .before .before .before .read in
+    let t = tested f in
+    let p = part-read (a .khz) (now (a .bytes)) (a .place) (length (now (a .spectrum))) (length (now (a .residual))) (t .0) (t .1) (t .2) (t .3)
+    (now (f .frame .result)) (f .frame .ensures) (λ z. omega (arith, z, c .before .before .before .before .before .before .before .if4 .left)) in
+    reading _ _ (r .result) (c .numbered .result) _ _ _ _ p (c .numbered .ensures)
+    (r .ensures .0) (r .ensures .1 .0) (r .ensures .1 .1 .0) (r .ensures .1 .1 .1)
+
+pub read-entry-spec : {M : Type 1} → statement M
+read-entry-spec =
+    tie.close
+    (tie.spec
+    line-count-requires
+    unread-requires
+    returns
+    unread-requires-2
+    returns-2
+    unread-requires-3
+    returns-3
+    frame-requires
+    why-missing-requires
+    unread-requires-4
+    returns-4
+    read-requires
+    numbered-requires
+    same-length
+    same-length-2
+    returns-5)

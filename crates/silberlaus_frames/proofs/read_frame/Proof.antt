@@ -1,0 +1,28 @@
+-- `silberlaus_frames::read_frame` meets its contract: that of `frame::read`, with the number in place of the enum. Assumes nothing.
+use mathlib.Core.Path.{refl}
+use borrow.Author.Needs.{needs}
+use Rattle.silberlaus_frames.proofs.read_frame.Statement.{statement}
+use Rattle.silberlaus_frames.proofs.read_frame.Tie as tie
+use Rattle.silberlaus_frames.proofs.Entry.{reading}
+
+read-requires : tie.Need-read-requires
+read-requires c κs = search needs
+
+numbered-requires : tie.Need-numbered-requires
+numbered-requires c κs = search needs
+
+same-length : tie.Need-same-length
+same-length c = search needs
+
+same-length-2 : tie.Need-same-length-2
+same-length-2 c = search needs
+
+returns : tie.Need-returns
+returns c =
+    let r = c .before .before .before .before .read in
+    reading _ _ (r .result) (c .numbered .result) _ _ _ _ refl (c .numbered .ensures)
+    (r .ensures .0) (r .ensures .1 .0) (r .ensures .1 .1 .0) (r .ensures .1 .1 .1)
+
+pub read-frame-spec : {M : Type 1} → statement M
+read-frame-spec =
+    tie.close (tie.spec read-requires numbered-requires same-length same-length-2 returns)

@@ -1,0 +1,62 @@
+-- The answers of `frame` (its specs/Frame.antt) over the fields of the C struct, and what reading an entry of a record answers. Assumes nothing.
+use mathlib.Core.Bool.{cond, _&&_}
+use mathlib.Core.Option.{Option, none, some}
+use mathlib.Core.List.{List}
+use Prim.Native.Nat.{ℕ, zero, suc, _+_, _*_, _≤_}
+use lib.Dec.{ltb, eqb}
+use lib.ListN.{length}
+use lib.IntN.{ℤ}
+use Rattle.frame_settings.specs.Settings.{rateOf}
+use Rattle.frame.specs.Frame.{Judged, refused, judgedRead, frameOf, Given}
+use Rattle.frame_pairs.specs.Sound.{Small}
+use Rattle.frame_settings.specs.declared.Setting.{Setting}
+use Rattle.frame_settings.specs.declared.Rate.{Rate}
+use Rattle.frame_settings.specs.declared.Rate.the-variants as rate
+use Rattle.frame.specs.declared.Fields.{Fields}
+use Rattle.record_bytes.specs.Layout.{RecordEntry}
+use Rattle.record_bytes.specs.Reading.{readRecord}
+use Rattle.record.specs.Answers.{frameAt, entryAnswer}
+use Rattle.silberlaus_frames.specs.declared.SilberlausFrame.{SilberlausFrame}
+
+abbrev pub given : ℕ → ℕ → Fields → List ℕ → List ℕ → Given
+given number why f first second = record { number = number; cause = why; fields = f; first = first; second = second }
+
+-- the fields of the C struct, group by group
+abbrev pub frameGiven : SilberlausFrame → Given
+frameGiven r = given (r .number) (r .cause)
+    (record {
+      side = record {
+        head = record { bandwidth = r .bandwidth; «last_line» = r .«last_line»; «lsb_mode» = r .«lsb_mode»; gain = r .gain };
+        flags = record { «tns_0» = r .«tns_flag_0»; «tns_1» = r .«tns_flag_1»; «pitch_present» = r .«pitch_present» };
+        shape = record { low = r .«shape_low»; high = r .«shape_high»; mode = r .«shape_mode»; gain = r .«shape_gain»; sign = r .«shape_sign»; joint = r .«shape_joint» };
+        tail = record { «filter_flag» = r .«filter_flag»; «pitch_index» = r .«pitch_index»; «noise_level» = r .«noise_level» };
+      };
+      «tns_order_0» = r .«tns_order_0»;
+      «tns_order_1» = r .«tns_order_1»;
+      «residual_bits» = r .«residual_bits»;
+      symbols = r .symbols;
+    })
+    (r .«tns_coefficients_0») (r .«tns_coefficients_1»)
+
+-- "the record 7, the place 1, then the frame's 5"
+abbrev pub judgedPlace : Setting → Option (List RecordEntry) → ℕ → Judged
+judgedPlace r none place = refused 7 0
+judgedPlace r (some es) place = cond (ltb place (length es)) (judgedRead (frameOf (frameAt es place) r)) (refused 1 0)
+
+-- "the rate 1, the two buffers 2"
+abbrev pub judgedIn : Rate → List ℕ → ℕ → ℕ → ℕ → Judged
+judgedIn rate.Unknown s place x b = refused 1 0
+judgedIn (rate.Known r) s place x b = cond (eqb x (r .lines) && eqb b (r .lines)) (judgedPlace r (readRecord s) place) (refused 2 0)
+
+-- of a rate, a record and a place, and the lengths of the two lent buffers
+unfoldable pub judgedEntry : ℕ → List ℕ → ℕ → ℕ → ℕ → Judged
+judgedEntry khz s place x b = judgedIn (rateOf khz) s place x b
+
+-- the record's own number for a place
+abbrev pub missing : List ℕ → ℕ → ℕ
+missing s place = entryAnswer s place .number
+
+-- `frame`'s bounds, over the number: at most 18 + 7 x last line symbols, values in -32,767 to 32,767
+abbrev pub Bounded : ℕ → ℕ → ℕ → ℕ → List ℤ → Type 0
+Bounded zero why symbols last lines = (symbols ≤ 18 + 7 * last) × Small lines
+Bounded (suc number) why symbols last lines = why ≤ 7

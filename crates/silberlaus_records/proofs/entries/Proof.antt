@@ -1,0 +1,23 @@
+-- `silberlaus_records::entries` meets its contract, case by case. Assumes nothing.
+use borrow.Author.Needs.{needs}
+use Rattle.silberlaus_records.proofs.entries.Statement.{statement}
+use Rattle.silberlaus_records.proofs.entries.Tie as tie
+
+entries-requires : tie.Need-entries-requires
+entries-requires c κs = search needs
+
+enum-known-counted : tie.Need-enum-known-counted
+enum-known-counted c = search needs
+
+enum-told : tie.Need-enum-told
+enum-told c = search needs
+
+returns : tie.Need-returns
+returns c = rw (c .before .counted .given .1) at (c .before .before .before .entries .ensures)
+
+returns-2 : tie.Need-returns-2
+returns-2 c = rw (c .enum-told .given .1) at (c .before .before .entries .ensures)
+
+pub entries-spec : {M : Type 1} → statement M
+entries-spec =
+    tie.close (tie.spec entries-requires enum-known-counted enum-told returns returns-2)

@@ -1,0 +1,63 @@
+// Protecting and unprotecting with document 01's numbers and C's struct in place of the enum answers. It stands over `slot`.
+// Inner: `silberlaus` stands over it. It asks nothing.
+ghost use mathlib.Core.Path.{_≡_};
+ghost use Rattle.slot.specs.Protect.{Protects};
+ghost use Rattle.slot.specs.Unprotect.{Unprotects};
+use slot::Protection;
+use slot::Reception;
+
+// C's silberlaus_unprotected.
+#[repr(C)]
+pub struct SilberlausUnprotected {
+    pub number: u8,
+    pub request: u8,
+    pub semi_octets: u16,
+}
+
+pub fn protect(
+    size: usize,
+    mode: u32,
+    request: u32,
+    frame: &[u8],
+    sent: &mut [u8],
+) -> u8
+    ensures { λ r. ⌜ Protects size mode request (now (frame .entry)) (now (sent .entry)) (now (sent .exit)) r ⌝ }
+{
+    match slot::protect(size, mode, request, frame, sent) {
+        Protection::Protected => 0,
+        Protection::Setting => 1,
+        Protection::Length => 2,
+    }
+}
+
+// A refusal: its number, and zero in every other field.
+fn refused(number: u8) -> SilberlausUnprotected
+    ensures { λ r. ⌜ r ≡ record { number = number; request = 0; «semi_octets» = 0 } ⌝ }
+{
+    SilberlausUnprotected {
+        number,
+        request: 0,
+        semi_octets: 0,
+    }
+}
+
+pub fn unprotect(
+    size: usize,
+    mode: u32,
+    received: &[u8],
+    frame: &mut [u8],
+) -> SilberlausUnprotected
+    ensures { λ r. ⌜ Unprotects size mode (now (received .entry)) (now (frame .entry)) (now (frame .exit)) (r .number) (r .request) (r .«semi_octets») ⌝ }
+{
+    match slot::unprotect(size, mode, received, frame) {
+        Reception::Accepted(q, n) => SilberlausUnprotected {
+            number: 0,
+            request: q,
+            semi_octets: n,
+        },
+        Reception::Setting => refused(1),
+        Reception::Length => refused(2),
+        Reception::Beyond => refused(3),
+        Reception::Foreign => refused(4),
+    }
+}
