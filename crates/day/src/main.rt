@@ -1,20 +1,14 @@
 // Walks the path of the speech on the sample on standard input: each frame is protected in a slot, the slot is changed by a fixed
-// rule, unprotected, read and stored in a record; then says what happened. It stands over `slot`, `frame` and `record`, and over
-// the C library's read and write, whose effects no contract covers. What goes wrong is said on standard error.
-mod air;
-mod report;
-mod sample;
-mod tally;
-mod text;
-mod way;
-
+// rule, unprotected, read and stored in a record; then says what happened. It stands over `day_way`, which walks, `day_report`, which
+// words what was counted, and the C library's read and write, whose effects no contract covers. What goes wrong is said on standard error.
 use input::Input;
 use libc::STDERR_FILENO;
 use libc::STDIN_FILENO;
 use libc::STDOUT_FILENO;
 use record_listing::Listed;
 use record::Made;
-use sample::Surveyed;
+use day_sample::sample;
+use day_sample::sample::Surveyed;
 
 fn main() {
     let mut bytes = [0u8; 65537];
@@ -69,8 +63,8 @@ fn show(
     text: &mut [u8],
     lines: &mut [u8],
 ) -> bool {
-    let t = way::walk(sample, buffer, 4);
-    let end = report::report(text, frames, buffer.len(), t);
+    let t = day_way::walk(sample, buffer, 4);
+    let end = day_report::report(text, frames, buffer.len(), t);
     let used = t.used;
     // Never taken: an entry is stored only where there is room for it.
     if buffer.len() < used {

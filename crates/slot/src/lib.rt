@@ -4,13 +4,14 @@
 ghost use mathlib.Core.Path.{_≡_};
 ghost use Prim.Native.Nat.{_<_};
 ghost use lib.ListN.{length};
-ghost use Rattle.slot_laws.specs.Sizes.{InRange, IsFrameSize, frameSize};
+ghost use Rattle.slot_laws.specs.Sizes.{InRange, frameSize};
 ghost use Rattle.slot_laws.specs.Order.{Data};
 ghost use Rattle.slot.specs.Protect as protecting;
 ghost use Rattle.slot.specs.Unprotect as unprotecting;
 ghost use Rattle.slot.specs.Demand.{Sends, Carried};
 ghost use Rattle.slot_laws.specs.Back.{requestIn};
 use slot_repair::Outcome;
+pub use slot_sizes::frame_size;
 
 // Whether a slot was made; document 01's 0, 1 and 2.
 pub enum Protection {
@@ -26,19 +27,6 @@ pub enum Reception {
     Length,
     Beyond,
     Foreign,
-}
-
-// The bytes of a frame in a slot of this size; 0 where a setting is out of range.
-pub fn frame_size(size: usize, mode: u32) -> usize
-    ensures { λ r. ⌜ IsFrameSize size mode r ⌝ }
-{
-    match size {
-        40..=400 => match mode {
-            2..=4 => slot_sizes::frame_bytes(size, mode as usize),
-            _ => 0,
-        },
-        _ => 0,
-    }
 }
 
 // Annex A's slot of a frame and a request.

@@ -1,7 +1,7 @@
 // The sizes of a slot's parts (A.7 to A.15): each function equals its definition in specs/Sizes.antt.
 ghost use mathlib.Core.Path.{_≡_};
 ghost use Prim.Native.Nat.{_+_, _*_, _≤_, _<_};
-ghost use Rattle.slot_laws.specs.Sizes.{InRange, words, wordLength, dataLength, concealWords, conceal, hash1, hash2, frameSize};
+ghost use Rattle.slot_laws.specs.Sizes.{InRange, words, wordLength, dataLength, concealWords, conceal, hash1, hash2, frameSize, IsFrameSize};
 
 pub fn word_count(size: usize) -> usize
     requires { ⌜ size ≤ 400 ⌝ }
@@ -74,4 +74,17 @@ pub fn frame_bytes(size: usize, mode: usize) -> usize
     ensures { λ r. ⌜ (r ≡ frameSize size mode) × (r ≤ 400) ⌝ }
 {
     size - first_hash_size(size) - second_hash_size(size, mode) - word_count(size) * (mode - 1)
+}
+
+// The bytes of a frame in a slot of this size; 0 where a setting is out of range.
+pub fn frame_size(size: usize, mode: u32) -> usize
+    ensures { λ r. ⌜ IsFrameSize size mode r ⌝ }
+{
+    match size {
+        40..=400 => match mode {
+            2..=4 => frame_bytes(size, mode as usize),
+            _ => 0,
+        },
+        _ => 0,
+    }
 }

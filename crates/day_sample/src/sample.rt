@@ -1,0 +1,89 @@
+// The sample, frame after frame: the rate in kHz in one byte, the frame's length in two, the higher first, then the frame.
+ghost use Prim.Native.Nat.{_<_};
+ghost use lib.ListN.{length};
+ghost use Rattle.day_sample.specs.Sample.{Follows};
+
+// A frame of the sample: its rate, and where it starts and ends.
+pub struct Piece {
+    pub khz: u32,
+    pub start: usize,
+    pub end: usize,
+}
+
+// What stands at a place of the sample.
+pub enum Next {
+    Frame(Piece),
+    CutShort,
+    UnknownRate,
+    BadLength,
+}
+
+// How many frames the sample has, or what is wrong with it.
+pub enum Surveyed {
+    Frames(usize),
+    CutShort,
+    UnknownRate,
+    BadLength,
+}
+
+fn wide(x: u8) -> usize
+    ensures { λ r. ⌜ r < 256 ⌝ }
+{
+    x as usize
+}
+
+// The frame at a place.
+pub fn frame_at(bytes: &[u8], at: usize) -> Next
+    ensures { λ r. ⌜ Follows r at (length (now (bytes .entry))) ⌝ }
+{
+    if bytes.len() <= at {
+        return Next::CutShort;
+    }
+    if bytes.len() - at < 3 {
+        return Next::CutShort;
+    }
+    let khz = wide(bytes[at]) as u32;
+    if frame::line_count(khz) == 0 {
+        return Next::UnknownRate;
+    }
+    let n = 256 * wide(bytes[at + 1]) + wide(bytes[at + 2]);
+    if n < 20 {
+        return Next::BadLength;
+    }
+    if 400 < n {
+        return Next::BadLength;
+    }
+    let start = at + 3;
+    if bytes.len() - start < n {
+        return Next::CutShort;
+    }
+    Next::Frame(Piece {
+        khz,
+        start,
+        end: start + n,
+    })
+}
+
+// Goes through the whole sample before anything is sent.
+pub fn survey(bytes: &[u8]) -> Surveyed {
+    let mut at: usize = 0;
+    let mut count: usize = 0;
+    while at < bytes.len() {
+        let found = frame_at(bytes, at);
+        let Next::Frame(piece) = found else {
+            return wrong(found);
+        };
+        at = piece.end;
+        count = count + 1;
+    }
+    Surveyed::Frames(count)
+}
+
+fn wrong(found: Next) -> Surveyed {
+    match found {
+        Next::Frame(_) => Surveyed::Frames(0),
+        Next::CutShort => Surveyed::CutShort,
+        Next::UnknownRate => Surveyed::UnknownRate,
+        Next::BadLength => Surveyed::BadLength,
+    }
+}
