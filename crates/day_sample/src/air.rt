@@ -26,13 +26,13 @@ pub fn smallest(n: usize) -> Fit
 
 // The strongest mode in which a slot of this size carries exactly n bytes; 0 where none does.
 fn strongest(size: usize, n: usize) -> u32 {
-    if slot::frame_size(size, 4) == n {
+    if slot_sizes::frame_size(size, 4) == n {
         return 4;
     }
-    if slot::frame_size(size, 3) == n {
+    if slot_sizes::frame_size(size, 3) == n {
         return 3;
     }
-    if slot::frame_size(size, 2) == n {
+    if slot_sizes::frame_size(size, 2) == n {
         return 2;
     }
     0

@@ -43,7 +43,7 @@ pub fn frame_at(bytes: &[u8], at: usize) -> Next
         return Next::CutShort;
     }
     let khz = wide(bytes[at]) as u32;
-    if frame::line_count(khz) == 0 {
+    if frame_settings::line_count(khz) == 0 {
         return Next::UnknownRate;
     }
     let n = 256 * wide(bytes[at + 1]) + wide(bytes[at + 2]);
