@@ -1,5 +1,3 @@
--- What is right of one Reed-Solomon code word: polynomials over the field of 16, validity, and what making and correcting a word answer.
+-- What making and correcting a word answer: document 01's numbers and the values of each case, over the definitions of `code_word_laws`.
 pub mod Make
 pub mod Correct
--- the check semi-octets as a sum over the data, and the register that their table is made with
--- what the private steps promise each other: no public promise cites these

@@ -1,7 +1,7 @@
-// How one word is corrected. Its values at 2^0 .. 2^14 are read from a lent table and added up, packed in one number (the spectrum); the values at
-// 2^1 .. 2^(2 t) are those of its errors alone (the syndromes), and a word in which they are 0 is left at once. Where they are those of one error, it is
-// taken off. From the others comes a rule by which the sums of at most t errors go on, and from fifteen sums the errors themselves. The word with them
-// taken off is tested, and put back where it is not valid.
+// How words are corrected. A word whose syndromes are 0 is left at once; where they are those of one error, it is taken off; else the rule
+// of `code_word_locator` gives fifteen sums, and these the errors. The word with them taken off is tested, and put back where it is not
+// valid.
+// Inner: `code_word` stands over it. It asks for the locator's table, for t from 1 to 3 and for words of at most 15 semi-octets.
 ghost use mathlib.Core.Path.{_≡_};
 ghost use mathlib.Core.Logic.{_≢_};
 ghost use Prim.Native.Nat.{_+_, _^_, _≤_, _<_};

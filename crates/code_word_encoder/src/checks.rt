@@ -1,4 +1,4 @@
-// What each data semi-octet adds to the check semi-octets of its word, for each mode: specs/Checks.antt says what the entries are.
+// What each data semi-octet adds to the check semi-octets of its word, for each mode: specs/Checks.antt of `code_word_laws` says what the entries are.
 ghost use Rattle.code_word_laws.specs.Checks.{IsCheckRows};
 
 // Entry 16 k + c: the two check semi-octets over c alone at data place k, packed.

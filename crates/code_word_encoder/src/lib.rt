@@ -1,5 +1,7 @@
-// The check semi-octets of a word by a packed shift register: division by the generating polynomial, all coefficients of the remainder in one number.
-// It stands on specs/Register.antt; proofs/Register.antt shows that what it leaves is the code word. One code for every mode; only the table differs.
+// The check semi-octets of a word: by a packed shift register, a division by the generating polynomial with all coefficients of the
+// remainder in one number (specs/Register.antt of `code_word_laws`), and the table of what each data semi-octet adds to them (`checks`).
+// One code for every mode.
+// Inner: `code_word` stands over it. It asks for a mode in range, and for data that are semi-octets behind room for the check.
 ghost use mathlib.Core.Path.{_≡_};
 ghost use Prim.Native.Nat.{_-_, _≤_, _<_};
 ghost use lib.ListN.{length, drop};

@@ -1,5 +1,5 @@
--- Many words that stand one after the other, as even in length as can be: where each starts, that all of them are the whole, and what a turn of the
--- loop over them keeps.
+-- Many words that stand one after the other, as even in length as can be: where each starts, that all of them are the whole, and what a
+-- turn of the loop over them keeps.
 -- Assumes nothing.
 use mathlib.Core.Path.{_≡_, refl, sym, ap, ap₂, _∙_, subst₂}
 use mathlib.Core.Bool.{Bool, true, false}

@@ -1,5 +1,5 @@
--- The sum of what each data semi-octet adds is what the whole data leave: its digits in front of the data are the code word. Over the degree n and the
--- number of data; a table's entry is what one semi-octet alone leaves.
+-- The sum of what each data semi-octet adds is what the whole data leave: its digits in front of the data are the code word. Over the
+-- degree n and the number of data; a table's entry is what one semi-octet alone leaves.
 -- Assumes nothing.
 use mathlib.Core.Path.{_≡_, refl, sym, ap, ap₂, _∙_}
 use mathlib.Core.List.{List, [], _∷_, _++_}

@@ -1,5 +1,5 @@
--- The code word over the data, by division, is a code word, and the only one of its length over these data.
--- It rests on the division of Division.antt, and on the distance: two words over the same data differ in the d - 1 check semi-octets at most.
+-- The code word over the data, by division, is a code word, and the only one of its length over these data. It rests on the division of
+-- Division.antt, and on the distance: two words over the same data differ in the d - 1 check semi-octets at most.
 -- Assumes nothing.
 use mathlib.Core.Path.{_≡_, refl, sym, ap, _∙_}
 use mathlib.Core.Bool.{true}

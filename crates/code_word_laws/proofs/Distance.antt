@@ -1,5 +1,6 @@
--- The distance of the code, once for every d: two words of one length at most 15 with the roots 2^1 .. 2^(d-1) that differ in fewer than d places are
--- equal. It is the elimination of Places.antt at the places in which they differ. At most one such word lies within m - 1 places of anything.
+-- The distance of the code, once for every d: two words of one length at most 15 with the roots 2^1 .. 2^(d-1) that differ in fewer than d
+-- places are equal. It is the elimination of Places.antt at the places in which they differ. At most one such word lies within m - 1 places
+-- of anything.
 -- Assumes nothing.
 use mathlib.Core.Path.{_≡_, refl, sym, ap, ap₂, _∙_}
 use mathlib.Core.Bool.{Bool, true, false}

@@ -1,5 +1,5 @@
--- Polynomials divided by the generating polynomial: a word is valid where the generator divides it, and that is where it has the generator's roots.
--- So the distance argument of Distance.antt holds for valid words. All is general in the distance.
+-- Polynomials divided by the generating polynomial: a word is valid where the generator divides it, and that is where it has the
+-- generator's roots. So the distance argument of Distance.antt holds for valid words. All is general in the distance.
 -- Assumes nothing.
 use mathlib.Core.Path.{_≡_, refl, sym, ap, ap₂, _∙_}
 use mathlib.Core.Bool.{Bool, true, false}

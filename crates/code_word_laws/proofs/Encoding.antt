@@ -1,4 +1,4 @@
--- The turns of the encoder's loops and its answers, over plain lists and numbers. The proofs of src/encoder.rt cite them.
+-- The turns of the encoder's loops and its answers, over plain lists and numbers. The proofs of `code_word_encoder` cite them.
 -- Assumes nothing.
 use mathlib.Core.Path.{_≡_, refl, sym, ap, ap₂, _∙_, subst}
 use mathlib.Core.List.{List, _∷_}

@@ -1,19 +1,24 @@
--- Laws.
-pub mod Batch
-pub mod Checks
-pub mod Coded
+-- The theory of one code word, and the laws that the functions' proofs cite.
+
+-- words and their distance
+pub mod Places
 pub mod Distance
 pub mod Division
-pub mod Encoding
-pub mod Levels
-pub mod Mend
-pub mod Packed
-pub mod Places
-pub mod Promises
-pub mod Register
-pub mod Rule
-pub mod Single
-pub mod Table
+pub mod Coded
+-- settings and elements
 pub mod Tests
+-- making a word
+pub mod Register
+pub mod Encoding
+pub mod Checks
+-- correcting words
+pub mod Packed
+pub mod Table
 pub mod Transform
+pub mod Rule
+pub mod Mend
 pub mod Turns
+pub mod Single
+pub mod Levels
+pub mod Promises
+pub mod Batch

@@ -1,5 +1,6 @@
--- From the rule to the word: any errors that explain a word's sums are the digits that the steps find, so the word with them taken off is the valid
--- word near it, if there is one. That the word found is valid and near is tested; so soundness is that test, and completeness is here.
+-- From the rule to the word: any errors that explain a word's sums are the digits that the steps find, so the word with them taken off is
+-- the valid word near it, if there is one. That the word found is valid and near is tested; so soundness is that test, and completeness is
+-- here.
 -- Assumes nothing.
 use mathlib.Core.Path.{_≡_, refl, sym, ap, ap₂, _∙_, fun-ext, subst}
 use mathlib.Core.Bool.{Bool, true, false, false≢true}

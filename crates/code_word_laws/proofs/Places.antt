@@ -1,6 +1,6 @@
--- Sums over places of a word, and the elimination of one place after the other: where a sum of coefficients times powers of different places is 0
--- for as many powers as there are places, every coefficient is 0. The coefficients are a function of the place and the places a list, so
--- that taking one out changes the function and drops the list's head. The argument is general in the number of places.
+-- Sums over places of a word, and the elimination of one place after the other: where a sum of coefficients times powers of different
+-- places is 0 for as many powers as there are places, every coefficient is 0. The coefficients are a function of the place and the places a
+-- list, so that taking one out changes the function and drops the list's head. The argument is general in the number of places.
 -- Assumes nothing.
 use mathlib.Core.Path.{_≡_, refl, sym, ap, ap₂, _∙_}
 use mathlib.Core.Logic.{_≢_}

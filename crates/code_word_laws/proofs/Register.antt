@@ -1,6 +1,6 @@
--- The packed shift register divides: at each root of the generating polynomial of degree n, what it holds after the data has the value of x^n times the data.
--- So its digits in front of the data make a word with these roots, which is the code word. All is over n; the table of rows is the only thing that
--- differs by the mode.
+-- The packed shift register divides: at each root of the generating polynomial of degree n, what it holds after the data has the value of
+-- x^n times the data. So its digits in front of the data make a word with these roots, which is the code word. All is over n; the table of
+-- rows is the only thing that differs by the mode.
 -- Assumes nothing.
 use mathlib.Core.Path.{_≡_, refl, sym, ap, ap₂, _∙_}
 use mathlib.Core.Bool.{Bool, true, false}

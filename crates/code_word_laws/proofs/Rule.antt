@@ -1,6 +1,6 @@
--- The rule that the sums of at most t errors obey: each sum from the three before it. A vector that the first 2 t sums turn to 0 in t consecutive
--- places turns them to 0 everywhere, by the elimination of Places.antt; such a vector is read off the leading minor of the sums that is not 0.
--- No number of errors is told apart: the vector is found from the sums alone.
+-- The rule that the sums of at most t errors obey: each sum from the three before it. A vector that the first 2 t sums turn to 0 in t
+-- consecutive places turns them to 0 everywhere, by the elimination of Places.antt; such a vector is read off the leading minor of the sums
+-- that is not 0. No number of errors is told apart: the vector is found from the sums alone.
 -- Assumes nothing.
 use mathlib.Core.Path.{_≡_, refl, sym, ap, ap₂, _∙_}
 use mathlib.Core.Logic.{_≢_}

@@ -1,4 +1,5 @@
--- One error taken off: a word's values change by those of the error alone, so what is left of its spectrum tells whether the word without it is valid.
+-- One error taken off: a word's values change by those of the error alone, so what is left of its spectrum tells whether the word without
+-- it is valid.
 -- Assumes nothing.
 use mathlib.Core.Path.{_≡_, refl, sym, ap, ap₂, _∙_}
 use mathlib.Core.Bool.{true, false, false≢true}

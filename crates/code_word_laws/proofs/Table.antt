@@ -1,5 +1,5 @@
--- The corrector's table as a definition: its entries are computed from the field, by the digits of gf16's Products, and the code's constant is compared
--- with them by one computation. Assumes nothing.
+-- The corrector's table as a definition: its entries are computed from the field, by the digits of gf16's Products, and the code's constant
+-- is compared with them by one computation. Assumes nothing.
 use mathlib.Core.Path.{_≡_, refl, sym, ap, ap₂, _∙_}
 use mathlib.Core.Bool.{Bool, true, false}
 use mathlib.Core.List.{List}

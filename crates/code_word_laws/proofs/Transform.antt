@@ -1,5 +1,5 @@
--- The transform back: from the sums of a word's errors for the powers 1 .. 15 to the errors. The error at place k is the sum over n of the n-th
--- sum times 2^((15 - n) k), since the sum over n of x^n y^(15 - n) is 1 for x = y and 0 for any two different elements that are not 0.
+-- The transform back: from the sums of a word's errors for the powers 1 .. 15 to the errors. The error at place k is the sum over n of the
+-- n-th sum times 2^((15 - n) k), since the sum over n of x^n y^(15 - n) is 1 for x = y and 0 for any two different elements that are not 0.
 -- Assumes nothing.
 use mathlib.Core.Path.{_≡_, refl, sym, ap, ap₂, _∙_}
 use mathlib.Core.Bool.{Bool, true, false}

@@ -1,4 +1,5 @@
--- What a turn of each loop keeps, over plain lists and numbers: the spectrum, the transform, the errors taken off; and what the window of digits tells.
+-- What a turn of each loop keeps, over plain lists and numbers: the spectrum, the transform, the errors taken off; and what the window of
+-- digits tells.
 -- Assumes nothing.
 use mathlib.Core.Path.{_≡_, refl, sym, ap, ap₂, _∙_}
 use mathlib.Core.Bool.{Bool, true, false}

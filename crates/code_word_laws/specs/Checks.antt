@@ -1,6 +1,6 @@
--- The check semi-octets as a sum of what each data semi-octet adds to them, from a table that is made once for a mode and lent. A number holds
--- the d - 1 check semi-octets as digits to the base 16, the highest power in the lowest digit. proofs/Checks.antt shows that the digits of the
--- sum over the data, in front of them, are the code word.
+-- The check semi-octets as a sum of what each data semi-octet adds to them, from a table that is made once for a mode and lent. A number
+-- holds the d - 1 check semi-octets as digits to the base 16, the highest power in the lowest digit. proofs/Checks.antt shows that the
+-- digits of the sum over the data, in front of them, are the code word.
 -- Assumes nothing.
 use mathlib.Core.Path.{_≡_}
 use mathlib.Core.List.{List, [], _∷_}

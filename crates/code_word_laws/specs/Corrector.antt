@@ -1,5 +1,5 @@
--- What the private steps of correcting a word promise each other; no public promise rests on these names. The steps go from the word's values at
--- 2^0 .. 2^14 (its spectrum) to a rule by which the sums of its errors go on, and back from the sums to the errors.
+-- What the private steps of correcting a word promise each other; no public promise rests on these names. The steps go from the word's
+-- values at 2^0 .. 2^14 (its spectrum) to a rule by which the sums of its errors go on, and back from the sums to the errors.
 -- Assumes nothing.
 use mathlib.Core.Path.{_≡_}
 use mathlib.Core.Bool.{Bool, true, false}

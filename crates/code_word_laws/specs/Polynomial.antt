@@ -1,4 +1,5 @@
--- Polynomials over the field of 16: the list of the coefficients, lowest power first. Their product, division, and the generating polynomial.
+-- Polynomials over the field of 16: the list of the coefficients, lowest power first. Their product, division, and the generating
+-- polynomial.
 -- Assumes nothing.
 use mathlib.Core.Path.{_≡_}
 use mathlib.Core.List.{List, [], _∷_}

@@ -1,6 +1,6 @@
--- The packed shift register, of which the private contracts of src/encoder.rt and the table of Checks.antt speak; proofs/Register.antt shows that what it
--- leaves is the code word. A number holds n coefficients as digits to the base 16, the highest power in the lowest digit, so that a step of the
--- division is a shift down and two sums.
+-- The packed shift register, of which the contracts of `code_word_encoder` and the table of Checks.antt speak; proofs/Register.antt shows
+-- that what it leaves is the code word. A number holds n coefficients as digits to the base 16, the highest power in the lowest digit, so
+-- that a step of the division is a shift down and two sums.
 -- Assumes nothing.
 use mathlib.Core.List.{List, [], _∷_}
 use Prim.Native.Nat.{ℕ, zero, suc, _+_, _*_, _/_, _%_}

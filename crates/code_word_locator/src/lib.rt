@@ -1,7 +1,8 @@
-// How one word is corrected. Its values at 2^0 .. 2^14 are read from a lent table and added up, packed in one number (the spectrum); the values at
-// 2^1 .. 2^(2 t) are those of its errors alone (the syndromes), and a word in which they are 0 is left at once. Where they are those of one error, it is
-// taken off. From the others comes a rule by which the sums of at most t errors go on, and from fifteen sums the errors themselves. The word with them
-// taken off is tested, and put back where it is not valid.
+// What a word tells of its errors. Its values at 2^0 .. 2^14 are read from a lent table and added up, packed in one number (the spectrum);
+// the values at 2^1 .. 2^(2 t) are those of its errors alone (the syndromes). From these comes the rule by which the sums of at most t
+// errors go on.
+// Inner: `code_word_corrector` and `code_word` stand over it. It asks for the table that `table` gives, for t from 1 to 3 and for
+// semi-octets.
 ghost use mathlib.Core.Path.{_≡_};
 ghost use mathlib.Core.Logic.{_≢_};
 ghost use Prim.Native.Nat.{_+_, _^_, _≤_, _<_};
@@ -539,13 +540,13 @@ pub fn table() -> [u32; 512]
     TABLE
 }
 
-pub fn wide(x: u8) -> usize
+fn wide(x: u8) -> usize
     ensures { λ r. ⌜ r ≡ x ⌝ }
 {
     x as usize
 }
 
-pub fn long(x: u32) -> u64
+fn long(x: u32) -> u64
     ensures { λ r. ⌜ (r ≡ x) × (r < 4294967296) ⌝ }
 {
     x as u64
@@ -584,7 +585,7 @@ pub fn spectrum(t: &[u32; 512], word: &[u8]) -> u64
 }
 
 // The weight of the first digit past the 2 t syndromes, once they are the lowest.
-pub fn window(most: u8) -> u64
+fn window(most: u8) -> u64
     requires { ⌜ (1 ≤ most) × (most ≤ 3) ⌝ }
     ensures { λ r. ⌜ r ≡ 16 ^ (most + most) ⌝ }
 {
@@ -603,7 +604,7 @@ pub fn clear(s: u64, most: u8) -> bool
     s / 16 % window(most) == 0
 }
 
-pub fn crossed(t: &[u32; 512], a: u8, b: u8, c: u8, d: u8) -> u8
+fn crossed(t: &[u32; 512], a: u8, b: u8, c: u8, d: u8) -> u8
     requires { ⌜ Table (now t) × (a < 16) × (b < 16) × (c < 16) × (d < 16) ⌝ }
     ensures { λ r. ⌜ (r ≡ cross a b c d) × (r < 16) ⌝ }
 {
@@ -644,7 +645,7 @@ pub fn logarithm(a: u8) -> usize
 pub struct Rule(pub u8, pub u8, pub u8, pub u8);
 
 // The rule where the leading minor d of three rows is not 0.
-pub fn rule_three(t: &[u32; 512], s: u64, d: u8) -> Rule
+fn rule_three(t: &[u32; 512], s: u64, d: u8) -> Rule
     requires { ⌜ Table (now t) × (d < 16) × (d ≢ 0) × (d ≡ minor (nibble 1 s) (nibble 2 s) (nibble 3 s) (nibble 4 s) (nibble 5 s)) ⌝ }
     ensures { λ r. ⌜ Rules 3 s (r .0) (r .1) (r .2) (r .3) ⌝ }
 {
@@ -673,7 +674,7 @@ pub fn rule_three(t: &[u32; 512], s: u64, d: u8) -> Rule
 }
 
 // The rule where the leading minor c of two rows is not 0, and that of three is.
-pub fn rule_two(t: &[u32; 512], s: u64, most: u8, c: u8) -> Rule
+fn rule_two(t: &[u32; 512], s: u64, most: u8, c: u8) -> Rule
     requires { ⌜ Table (now t) × (2 ≤ most) × (most ≤ 3) × (c < 16) × (c ≢ 0) × (c ≡ cross (nibble 1 s) (nibble 2 s) (nibble 2 s) (nibble 3 s)) × Flat most s ⌝ }
     ensures { λ r. ⌜ Rules most s (r .0) (r .1) (r .2) (r .3) ⌝ }
 {
@@ -688,7 +689,7 @@ pub fn rule_two(t: &[u32; 512], s: u64, most: u8, c: u8) -> Rule
 }
 
 // The rule of one error at most, where both leading minors are 0.
-pub fn rule_one(t: &[u32; 512], s: u64, most: u8) -> Rule
+fn rule_one(t: &[u32; 512], s: u64, most: u8) -> Rule
     requires { ⌜ Table (now t) × (1 ≤ most) × (most ≤ 3) × Flat most s × Thin most s ⌝ }
     ensures { λ r. ⌜ Rules most s (r .0) (r .1) (r .2) (r .3) ⌝ }
 {
@@ -703,7 +704,7 @@ pub fn rule_one(t: &[u32; 512], s: u64, most: u8) -> Rule
 }
 
 // The rule of two errors at most.
-pub fn rule_low(t: &[u32; 512], s: u64, most: u8) -> Rule
+fn rule_low(t: &[u32; 512], s: u64, most: u8) -> Rule
     requires { ⌜ Table (now t) × (1 ≤ most) × (most ≤ 3) × Flat most s ⌝ }
     ensures { λ r. ⌜ Rules most s (r .0) (r .1) (r .2) (r .3) ⌝ }
 {

@@ -1,5 +1,5 @@
--- The rules of the arithmetic coder's tables, each by a test that antt computes: every row rises from 0 to exactly 1,024, every lookup names a row.
--- One test of rows serves every table and width; crate `laws` turns a computed test into a rule. Assumes nothing.
+-- The rules of the arithmetic coder's tables, each by a test that antt computes: every row rises from 0 to exactly 1,024, every lookup
+-- names a row. One test of rows serves every table and width; crate `laws` turns a computed test into a rule. Assumes nothing.
 use mathlib.Core.Path.{_≡_, refl, sym, ap, _∙_}
 use mathlib.Core.Bool.{Bool}
 use mathlib.Core.List.{List}

@@ -1,14 +1,14 @@
 // Walks the path of the speech on the sample on standard input: each frame is protected in a slot, the slot is changed by a fixed
 // rule, unprotected, read and stored in a record; then says what happened. It stands over `day_way`, which walks, `day_report`, which
 // words what was counted, and the C library's read and write, whose effects no contract covers. What goes wrong is said on standard error.
+use day_sample::sample;
+use day_sample::sample::Surveyed;
 use input::Input;
 use libc::STDERR_FILENO;
 use libc::STDIN_FILENO;
 use libc::STDOUT_FILENO;
-use record_listing::Listed;
 use record::Made;
-use day_sample::sample;
-use day_sample::sample::Surveyed;
+use record_listing::Listed;
 
 fn main() {
     let mut bytes = [0u8; 65537];

@@ -1,3 +1,3 @@
--- What the steps of the walk promise each other.
+-- What the sample's frames and the slots chosen for them are promised to be.
 pub mod Air
 pub mod Sample

@@ -1,2 +1,2 @@
--- The laws of the walk.
+-- The lines of a frame at any rate.
 pub mod Rates

@@ -3,11 +3,11 @@
 // Inner: `day` stands over it. It asks nothing.
 ghost use Prim.Native.Nat.{_≤_};
 ghost use lib.ListN.{length};
+use day_report::tally::Tally;
 use day_sample::air;
 use day_sample::air::Fit;
 use day_sample::sample;
 use day_sample::sample::Next;
-use day_report::tally::Tally;
 use frame::Answer;
 use frame::Fields;
 use record::Added;

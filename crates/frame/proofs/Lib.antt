@@ -1,2 +1,2 @@
--- The laws of the frame reader: of the definitions in specs/, and of one step of each loop.
+-- What each return of the whole reader says.
 pub mod WholeFrame

@@ -1,6 +1,7 @@
 // One LC3plus frame of 10 ms read into its fields (clause 5.4.2 of ETSI TS 103 634), over the tables of crate `coder_tables`.
-// Promised for every input: the answer and both lent buffers are those of the clause's own walk in specs/Frame.antt, or document 01's 1, 2 or 5
-// with the first cause in reading order; a refusal leaves both buffers as lent. Values lie in -32,767 to 32,767, symbols are at most 18 + 7 x last line.
+// Promised for every input: the answer and both lent buffers are those of the clause's own walk in specs/Frame.antt, or document 01's 1, 2
+// or 5 with the first cause in reading order; a refusal leaves both buffers as lent. Values lie in -32,767 to 32,767, symbols are at most
+// 18 + 7 x last line.
 ghost use mathlib.Core.Path.{_≡_};
 ghost use Prim.Native.Nat.{_/_};
 ghost use lib.ListN.{length};
@@ -18,11 +19,10 @@ pub use frame_side::Shape;
 pub use frame_side::Side;
 use frame_side::SideRead;
 pub use frame_side::Tail;
-use frame_tns::FilterRead;
 use frame_spectral::SpectralRead;
 use frame_spectral::read_spectral;
 use frame_spectral::spectral_cause;
-
+use frame_tns::FilterRead;
 
 // What an accepted frame says beside its TNS coefficients, spectrum and residual bits.
 pub struct Fields {

@@ -1,2 +1,2 @@
--- Laws.
+-- Laws of the bits of the side stream.
 pub mod SideBits

@@ -1,4 +1,4 @@
--- Definitions.
-pub mod Bits
+-- Reading steps and their chain (Read), bits of the side stream (Bits), and what the reader's own steps promise each other of them (Sound).
 pub mod Read
+pub mod Bits
 pub mod Sound

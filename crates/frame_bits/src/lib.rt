@@ -1,5 +1,6 @@
 // The side stream (5.4.2.9): bits from the last byte backwards. The cursor p is the number of bits read. Each function equals its
 // definition in specs/Bits.antt.
+// Inner: the crates of `frame` stand over it. It asks for a frame of 20 to 400 bytes and for at most 32 bits at a time.
 ghost use mathlib.Core.Path.{_≡_};
 ghost use Prim.Native.Nat.{_+_, _*_, _≤_, _<_};
 ghost use lib.ListN.{length};

@@ -1,2 +1,2 @@
--- Laws.
+-- Laws of decoding a symbol.
 pub mod Decoding

@@ -1,2 +1,2 @@
--- Laws.
+-- The escapes of a pair and what follows them.
 pub mod Escaping

@@ -1,4 +1,8 @@
-// One pair
+// One pair of lines (5.4.2.7): escapes, a last symbol, the signs and the next context. Each function equals its definition in
+// specs/Pair.antt; specs/Sound.antt has the bounds that one step gives the next. `look` has the lookups context after context, `byLevel` is
+// the standard's order of them.
+// Inner: `frame_pairs` stands over it. It asks for a frame of 20 to 400 bytes, for the tables of the spectrum, and for a cursor of
+// `frame_coder`.
 ghost use mathlib.Core.Path.{_≡_};
 ghost use Prim.Native.Nat.{_+_, _*_, _^_, _≤_, _<_, _/_, _%_};
 ghost use lib.ListN.{length};

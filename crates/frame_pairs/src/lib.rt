@@ -1,6 +1,6 @@
-// The spectral data (5.4.2.7): pairs of lines, each by escapes and a last symbol, into lent lines and levels. Each function equals its
-// definition in specs/Pairs.antt; specs/Sound.antt has the bounds that one step gives the next. `look` has the lookups context after context,
-// `byLevel` is the standard's order of them.
+// The pairs of a frame one after the other (5.4.2.7), into lent lines and levels. Each function equals its definition in specs/Pairs.antt.
+// Inner: `frame_residual` cites it, `frame_spectral` stands over it. It asks as `frame_pair` does, for at most 200 pairs, and for 400 lines
+// and 200 levels.
 ghost use mathlib.Core.Path.{_≡_};
 ghost use Prim.Native.Nat.{_+_, _*_, _≤_, _<_, _/_};
 ghost use lib.ListN.{length};
@@ -15,7 +15,6 @@ use frame_pair::Pair;
 use frame_pair::PairRead;
 use frame_pair::pair_cause;
 use frame_pair::read_pair;
-
 
 // What all pairs are read with: the LSB mode, the offset of the rate, and NE / 2.
 pub struct PairSetting {

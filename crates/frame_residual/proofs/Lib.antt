@@ -1,4 +1,4 @@
--- Laws.
+-- The bits left, the late low bits, and the copy to the lent buffers.
 pub mod BitsLeft
-pub mod Copying
 pub mod LateBits
+pub mod Copying

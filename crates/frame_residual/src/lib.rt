@@ -1,5 +1,7 @@
-// Residual data and finalization (5.4.2.8): the bits left, the residual bits, the late low bits, and both handed to the lent buffers.
-// Each function equals its definition in specs/Residual.antt; nothing that is read here leaves the frame.
+// Residual data and finalization (5.4.2.8): the bits left, the residual bits, the late low bits, and both handed to the lent buffers. Each
+// function equals its definition in specs/Residual.antt; nothing that is read here leaves the frame.
+// Inner: `frame_spectral` stands over it. It asks for a frame of 20 to 400 bytes, for cursors inside it, and for lines that leave room for
+// a late bit.
 ghost use mathlib.Core.Path.{_≡_};
 ghost use Prim.Native.Nat.{_+_, _*_, _≤_, _<_, _/_};
 ghost use lib.ListN.{length, take, replicate};

@@ -1,2 +1,2 @@
--- Laws.
+-- The five rates.
 pub mod Rates

@@ -1,2 +1,2 @@
--- Definitions.
+-- What a rate and a length give.
 pub mod Settings

@@ -1,4 +1,6 @@
 // What the rate and the frame's length give (document 01, "Reading a frame"): each function equals its definition in specs/Settings.antt.
+// Inner: the crates of `frame` and `day_sample` stand over it. `rate_offset` and `tns_weighting` ask for an index and a length in range;
+// `line_count`, which `frame` hands on to callers, asks nothing.
 ghost use mathlib.Core.Path.{_≡_};
 ghost use Prim.Native.Nat.{_≤_, _<_};
 ghost use Rattle.frame_settings.specs.Settings.{Known, KnownRate, lineCount, rateOf, rateOffset, weighting};

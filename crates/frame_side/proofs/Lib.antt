@@ -1,2 +1,2 @@
--- Laws.
+-- What each return of the fields' reading says.
 pub mod SideFields

@@ -1,2 +1,2 @@
--- Laws.
+-- One step of the loop over the coefficients.
 pub mod CoefficientSteps

@@ -1,5 +1,6 @@
 -- The field's laws. Sum and product are total on the numbers, so most laws hold with no side condition; what is concluded to be 0 or 1 asks
--- that an element is below 16. Each law of the product is one test that antt computes at all elements, on the digits of one number (Products).
+-- that an element is below 16. Each law of the product is one test that antt computes at all elements, on the digits of one number
+-- (Products).
 -- Assumes nothing.
 use mathlib.Core.Path.{_≡_, refl, sym, ap, ap₂, _∙_, subst}
 use mathlib.Core.Bool.{Bool, true, false}

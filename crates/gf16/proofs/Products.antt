@@ -1,5 +1,5 @@
--- All products in one number, so that a test over many of them is computed on numbers and not on bits. `looked-is` compares every digit with the field's
--- product, so that nothing rests on the number. Assumes nothing.
+-- All products in one number, so that a test over many of them is computed on numbers and not on bits. `looked-is` compares every digit
+-- with the field's product, so that nothing rests on the number. Assumes nothing.
 use mathlib.Core.Path.{_≡_, sym}
 use mathlib.Core.Bool.{Bool}
 use Prim.Native.Nat.{ℕ, _+_, _*_, _/_, _%_, _^_, _<_}

@@ -1,5 +1,6 @@
--- The field of 16 (Annex A, A.39): a semi-octet with bits b0 .. b3 is the polynomial b0 + b1 x + b2 x^2 + b3 x^3 over {0, 1}, with x^4 + x + 1 = 0.
--- A number stands for the polynomial of its bits, so x is 2. Every function is total: a product looks at the low four bits of its arguments.
+-- The field of 16 (Annex A, A.39): a semi-octet with bits b0 .. b3 is the polynomial b0 + b1 x + b2 x^2 + b3 x^3 over {0, 1}, with x^4 + x
+-- + 1 = 0. A number stands for the polynomial of its bits, so x is 2. Every function is total: a product looks at the low four bits of its
+-- arguments.
 -- Assumes nothing.
 use Prim.Native.Nat.{ℕ, zero, suc, _+_, _*_, _/_, _%_, _^_}
 use lib.Bits.{bitXor}

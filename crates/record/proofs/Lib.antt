@@ -1,3 +1,3 @@
--- Laws of the record's definitions, the inverse theorem, and a folder for each function.
+-- The answers from the walk (Answered), and the record's theorems (Theorems).
 pub mod Answered
 pub mod Theorems

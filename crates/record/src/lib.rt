@@ -1,17 +1,17 @@
 // The session record of document 01: entries of a frame, a request and a count, one after the other, then their number.
-// It stands over nothing. Each public function is total and equals its definition in specs/Answers.antt or specs/Listing.antt, the
-// lent buffer too; specs/Layout.antt says which bytes a list of entries is. Nothing is written before the last test.
+// It stands over `record_bytes`. Each public function is total and equals its definition in specs/Answers.antt, the lent buffer too;
+// specs/Layout.antt of `record_bytes` says which bytes a list of entries is. Nothing is written before the last test.
 
 ghost use mathlib.Core.Path.{_≡_};
 ghost use Rattle.record_bytes.specs.Layout.{RecordEntry};
 ghost use Rattle.record.specs.Answers.{madeNumber, newNumber, newBuffer, countedAnswer, entriesAnswer, foundAnswer, entryAnswer, framePart, mayAddTo, addedAnswer, addAnswer, addBuffer};
 ghost use Rattle.record.specs.Meaning.{CountMeans, StoredBy};
 pub use record_bytes::Located;
+use record_bytes::Walked;
 use record_bytes::copy_in;
 use record_bytes::end_number;
-use record_bytes::tail;
-use record_bytes::Walked;
 use record_bytes::in_range;
+use record_bytes::tail;
 use record_bytes::walk;
 use record_bytes::wide2;
 use record_bytes::wide4;

@@ -1,2 +1,2 @@
--- Definitions.
+-- The lines of a record's listing, and what `list` answers.
 pub mod Listing

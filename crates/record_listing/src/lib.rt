@@ -1,4 +1,5 @@
 // The listing of a record, built from the end of a buffer back, since that is how the entries are read: one more step an entry.
+// It stands over `record`. `list` is total and equals its definition in specs/Listing.antt, the lent buffer too.
 ghost use mathlib.Core.Path.{_≡_};
 ghost use Prim.Native.Nat.{_+_, _≤_, _<_};
 ghost use lib.ListN.{length};
@@ -7,10 +8,10 @@ ghost use Rattle.record_bytes.specs.Reading.{readRecord};
 ghost use Rattle.record_bytes.specs.Steps.{Placed};
 ghost use Rattle.record_listing.specs.Listing.{leading, field, line, linesOf, listedAnswer, listAnswer, listBuffer};
 use record::Counted;
-use record_bytes::Located;
 use record::entries;
-use record_bytes::copy_in;
+use record_bytes::Located;
 use record_bytes::Step;
+use record_bytes::copy_in;
 use record_bytes::entry_before;
 use record_bytes::wide;
 use record_bytes::wide2;

@@ -1,2 +1,2 @@
--- The cases of the frame functions, and what is proved of the definitions of all layers together.
+-- Document 01's small sums, proved.
 pub mod Sums

@@ -1,2 +1,2 @@
--- What the face's contracts cite beside the definitions of `slot`, `frame` and `record`, and document 01's small sums. Assumes nothing.
+-- Document 01's small sums.
 pub mod SmallSums

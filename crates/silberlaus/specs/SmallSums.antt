@@ -1,4 +1,5 @@
--- Document 01's "Small sums to prove together": one statement over the definitions of every layer. proofs/Sums.antt proves it. Assumes nothing.
+-- Document 01's "Small sums to prove together": one statement over the definitions of every layer. proofs/Sums.antt proves it. Assumes
+-- nothing.
 use mathlib.Core.Path.{_≡_}
 use mathlib.Core.List.{List, [], _∷_}
 use Prim.Native.Nat.{ℕ, zero, suc, _+_, _*_, _%_, _^_, _≤_}

@@ -1,2 +1,2 @@
--- Laws.
+-- An entry's frame read in place.
 pub mod Entry

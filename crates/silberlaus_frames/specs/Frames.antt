@@ -1,4 +1,5 @@
--- The answers of `frame` (its specs/Frame.antt) over the fields of the C struct, and what reading an entry of a record answers. Assumes nothing.
+-- The answers of `frame` (its specs/Frame.antt) over the fields of the C struct, and what reading an entry of a record answers. Assumes
+-- nothing.
 use mathlib.Core.Bool.{cond, _&&_}
 use mathlib.Core.Option.{Option, none, some}
 use mathlib.Core.List.{List}

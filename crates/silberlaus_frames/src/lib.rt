@@ -1,4 +1,5 @@
-// A frame read into the fields of C's struct with document 01's numbers, lent as it is or as an entry of a record. It stands over `frame` and `record`.
+// A frame read into the fields of C's struct with document 01's numbers, lent as it is or as an entry of a record. It stands over `frame`
+// and `record`.
 // Inner: `silberlaus` stands over it. It asks nothing.
 ghost use mathlib.Core.Path.{_≡_};
 ghost use lib.ListN.{length};

@@ -1,2 +1,2 @@
--- Definitions.
+-- The answers of `record` and what they mean, over the fields of C's structs.
 pub mod Records

@@ -1,4 +1,5 @@
-// The session record with document 01's numbers and C's structs in place of the enum answers: new, entries, entry and add. It stands over `record`.
+// The session record with document 01's numbers and C's structs in place of the enum answers: new, entries, entry and add. It stands over
+// `record`.
 // Inner: `silberlaus` stands over it. It asks nothing.
 ghost use mathlib.Core.Path.{_≡_};
 ghost use Rattle.record.specs.Answers.{newNumber, newBuffer, entriesAnswer, entryAnswer, addAnswer, addBuffer};

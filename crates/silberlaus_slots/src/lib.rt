@@ -14,13 +14,7 @@ pub struct SilberlausUnprotected {
     pub semi_octets: u16,
 }
 
-pub fn protect(
-    size: usize,
-    mode: u32,
-    request: u32,
-    frame: &[u8],
-    sent: &mut [u8],
-) -> u8
+pub fn protect(size: usize, mode: u32, request: u32, frame: &[u8], sent: &mut [u8]) -> u8
     ensures { λ r. ⌜ Protects size mode request (now (frame .entry)) (now (sent .entry)) (now (sent .exit)) r ⌝ }
 {
     match slot::protect(size, mode, request, frame, sent) {
@@ -41,12 +35,7 @@ fn refused(number: u8) -> SilberlausUnprotected
     }
 }
 
-pub fn unprotect(
-    size: usize,
-    mode: u32,
-    received: &[u8],
-    frame: &mut [u8],
-) -> SilberlausUnprotected
+pub fn unprotect(size: usize, mode: u32, received: &[u8], frame: &mut [u8]) -> SilberlausUnprotected
     ensures { λ r. ⌜ Unprotects size mode (now (received .entry)) (now (frame .entry)) (now (frame .exit)) (r .number) (r .request) (r .«semi_octets») ⌝ }
 {
     match slot::unprotect(size, mode, received, frame) {

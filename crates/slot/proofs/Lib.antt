@@ -1,4 +1,4 @@
--- The laws of a slot, in the order of specs/; the rule for unprotecting; demand 3; and two of the reference vectors computed.
+-- The rule for unprotecting, demand 3, and what the code asks at its returns.
 pub mod Rule
 pub mod Demand
 mod UnprotectSteps

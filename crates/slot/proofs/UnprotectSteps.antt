@@ -1,4 +1,5 @@
--- What the code of unprotecting asks at its returns: the answer from the words corrected and the heading compared, and demand 3 of two calls.
+-- What the code of unprotecting asks at its returns: the answer from the words corrected and the heading compared, and demand 3 of two
+-- calls.
 -- Assumes nothing.
 use mathlib.Core.Path.{_≡_, sym, ap, _∙_}
 use mathlib.Core.Bool.{true, false}

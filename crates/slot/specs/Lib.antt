@@ -1,6 +1,4 @@
--- What is right of a slot: Annex A.1's encoder step by step in the annex's order (Sizes, Semi, Hash, Order, Words, Slot),
--- and what protecting and unprotecting answer (Protect, Unprotect), with the places that are counted (Changes), and demand 3 (Demand).
--- Back and Inner are of the code's own steps.
+-- What protecting and unprotecting answer (Protect, Unprotect), and demand 3 (Demand), over Annex A.1's encoder in specs/ of `slot_laws`.
 pub mod Protect
 pub mod Unprotect
 pub mod Demand

@@ -1,6 +1,7 @@
 // One slot of Annex A.1 over the code words (crate `code_word`): protecting a frame, and unprotecting what was received, the mode told.
-// Promised for every input: `protect` leaves exactly the slot that specs/ makes step by step in the annex's order, or refuses with 1 or 2;
-// `unprotect` answers by document 01's rule, which leaves no choice, and writes the frame on 0 alone; `carry` is demand 3 of the two.
+// Promised for every input: `protect` leaves exactly the slot that specs/ of `slot_laws` makes step by step in the annex's order, or
+// refuses with 1 or 2; `unprotect` answers by document 01's rule, which leaves no choice, and writes the frame on 0 alone; `carry` is
+// demand 3 of the two.
 ghost use mathlib.Core.Path.{_≡_};
 ghost use Prim.Native.Nat.{_<_};
 ghost use lib.ListN.{length};

@@ -1,4 +1,5 @@
--- What the code that delivers a frame asks: two rows compared, the heading made anew beside the one that was sent, and the frame put together.
+-- What the code that delivers a frame asks: two rows compared, the heading made anew beside the one that was sent, and the frame put
+-- together.
 -- Assumes nothing.
 use mathlib.Core.Path.{_≡_, refl, sym, ap, ap₂, _∙_}
 use mathlib.Core.Bool.{Bool, true, false, true≢false}

@@ -1,2 +1,2 @@
--- LAWS
+-- What the code that compares the heading and writes the frame asks.
 pub mod HeadingSteps

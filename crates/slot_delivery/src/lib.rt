@@ -1,5 +1,5 @@
-// The frame of a slot's data in order: the heading is made anew and compared, and the frame written where it matches. Inner: `slot` stands over it. It asks
-// for a size and a mode in range, for data of their length and for the request that they carry.
+// The frame of a slot's data in order: the heading is made anew and compared, and the frame written where it matches. Inner: `slot` stands
+// over it. It asks for a size and a mode in range, for data of their length and for the request that they carry.
 ghost use mathlib.Core.Path.{_≡_};
 ghost use mathlib.Core.Bool.{true};
 ghost use Prim.Native.Nat.{_+_, _-_, _*_, _≤_, _<_};
@@ -56,10 +56,11 @@ pub fn deliver(size: usize, mode: usize, request: u32, info: &[u8], frame: &mut 
     requires { ⌜ (InRange size mode) × (request ≡ requestIn size (now info)) × (Data size mode (now info)) × (length (now frame) ≡ frameSize size mode) ⌝ }
     ensures { λ r. ⌜ IsDelivered size mode (now (info .entry)) (now (frame .entry)) (now (frame .exit)) r ⌝ }
 {
-    let h = 2 * slot_sizes::first_hash_size(size) + 2 * slot_sizes::second_hash_size(size, mode);
+    let heading = 2 * slot_sizes::first_hash_size(size)
+        + 2 * slot_sizes::second_hash_size(size, mode);
     if !matches(size, mode, request, info) {
         return false;
     }
-    roll(&info[h..], frame);
+    roll(&info[heading..], frame);
     true
 }

@@ -1,5 +1,6 @@
 // The two hashes (A.20 to A.25) from the highest power down: four semi-octets at a time, so that the remainder waits for a table
 // once in four.
+// Inner: `slot_ordering` stands over it. It asks for a size and a mode in range and for a frame's semi-octets of their number.
 ghost use mathlib.Core.Path.{_≡_};
 ghost use Prim.Native.Nat.{_+_, _*_, _/_, _%_, _^_, _≤_, _<_};
 ghost use lib.ListN.{length};

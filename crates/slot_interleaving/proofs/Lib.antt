@@ -1,2 +1,2 @@
--- Laws.
+-- What the code that puts words to their places asks.
 pub mod PlaceSteps

@@ -1,4 +1,6 @@
-// Words to their places in the slot and back (A.38, A.46 to A.52): the mode signature, the interleaving, the bytes.
+// Words to their places in the slot (A.38, A.46 to A.52): the mode signature, the interleaving, the bytes.
+// Inner: the crates of `slot` that order, receive and write stand over it. It asks for a size and a mode in range and for buffers of their
+// length.
 ghost use mathlib.Core.Path.{_≡_};
 ghost use mathlib.Core.List.{[]};
 ghost use Prim.Native.Nat.{ℕ, _+_, _*_, _-_, _≤_, _<_};

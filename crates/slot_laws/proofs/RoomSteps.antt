@@ -1,4 +1,5 @@
--- A word's data in their place among the data of the slot: where they end, the room that they have, and what is read there once they are put. Assumes nothing.
+-- A word's data in their place among the data of the slot: where they end, the room that they have, and what is read there once they are
+-- put. Assumes nothing.
 use mathlib.Core.Path.{_≡_, sym, ap, _∙_}
 use mathlib.Core.List.{List, _++_}
 use Prim.Native.Nat.{ℕ, suc, _+_, _*_, _-_, _≤_, _<_}

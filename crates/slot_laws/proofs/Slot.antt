@@ -1,5 +1,6 @@
 -- A slot and its data are inverse to each other: the data of a slot that was made are those it was made of (`gathered-slot`), and a slot of
--- valid words is made of its data (`slot-gathered`). So a slot of valid words is one that protecting makes exactly when its heading matches.
+-- valid words is made of its data (`slot-gathered`). So a slot of valid words is one that protecting makes exactly when its heading
+-- matches.
 -- Assumes nothing.
 use mathlib.Core.Path.{_≡_, refl, sym, ap, _∙_}
 use mathlib.Core.Bool.{Bool, true, false}

@@ -1,5 +1,5 @@
 -- The way back from the data of a slot: the request, the frame, and whether the heading is the one that they make. That this decides
--- document 01's "some frame and request" is a law (proofs/Rule.antt).
+-- document 01's "some frame and request" is a law (proofs/Rule.antt of `slot`).
 -- Assumes nothing.
 use mathlib.Core.Path.{_≡_}
 use mathlib.Core.List.{List}

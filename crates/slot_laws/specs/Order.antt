@@ -1,5 +1,5 @@
--- The data of a slot in order (A.16 to A.37): the frame's semi-octets from the last byte back, both hashes and the request in front of them,
--- and the swap. Semi-octets are numbers below 16; four bits of the annex, the lowest first, are one of them.
+-- The data of a slot in order (A.16 to A.37): the frame's semi-octets from the last byte back, both hashes and the request in front of
+-- them, and the swap. Semi-octets are numbers below 16; four bits of the annex, the lowest first, are one of them.
 -- Assumes nothing.
 use mathlib.Core.Path.{_≡_}
 use mathlib.Core.List.{List, [], _∷_, _++_}

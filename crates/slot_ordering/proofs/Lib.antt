@@ -1,2 +1,2 @@
--- Laws.
+-- What the code that puts the data in order asks.
 pub mod OrderSteps

@@ -1,5 +1,5 @@
--- What the code that corrects a slot's words all at once asks: the words one after the other as received, what correcting them in one call leaves
--- of each, their data gathered, and the slot's answer from that.
+-- What the code that corrects a slot's words all at once asks: the words one after the other as received, what correcting them in one call
+-- leaves of each, their data gathered, and the slot's answer from that.
 -- Assumes nothing.
 use mathlib.Core.Path.{_≡_, refl, sym, ap, ap₂, _∙_, subst}
 use mathlib.Core.Bool.{Bool, true, false}

@@ -1,3 +1,3 @@
--- LAWS
+-- What the code that corrects a slot asks: a word received and the slot's answer (ReceiveSteps), all words in one call (BatchSteps).
 pub mod ReceiveSteps
 pub mod BatchSteps

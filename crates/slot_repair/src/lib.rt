@@ -1,5 +1,6 @@
-// The data of a received slot, every word corrected (A.53 to A.55): a clean slot is told first; else its words are taken from their places, corrected in
-// one call, and their data put in order. Inner: `slot` stands over it. It asks for a size and a mode in range and for rooms of their length.
+// The data of a received slot, every word corrected (A.53 to A.55): a clean slot is told first; else its words are taken from their places,
+// corrected in one call, and their data put in order. Inner: `slot` stands over it. It asks for a size and a mode in range and for rooms of
+// their length.
 ghost use mathlib.Core.Path.{_≡_};
 ghost use Prim.Native.Nat.{ℕ, _+_, _-_, _*_, _<_};
 ghost use lib.ListN.{length, getD};

@@ -1,2 +1,2 @@
--- Laws.
+-- What the code of the sizes asks.
 pub mod SizeSteps

@@ -1,4 +1,6 @@
-// The sizes of a slot's parts (A.7 to A.15): each function equals its definition in specs/Sizes.antt.
+// The sizes of a slot's parts (A.7 to A.15): each function equals its definition in specs/Sizes.antt of `slot_laws`.
+// Inner: the crates of `slot` and `day_sample` stand over it. It asks for a size and a mode in range; `frame_size`, which `slot` hands on
+// to callers, asks nothing.
 ghost use mathlib.Core.Path.{_≡_};
 ghost use Prim.Native.Nat.{_+_, _*_, _≤_, _<_};
 ghost use Rattle.slot_laws.specs.Sizes.{InRange, words, wordLength, dataLength, concealWords, conceal, hash1, hash2, frameSize, IsFrameSize};

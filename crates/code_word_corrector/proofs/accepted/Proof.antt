@@ -1,4 +1,4 @@
--- `code_word::corrector::accepted` meets its contract. Assumes nothing.
+-- `code_word_corrector::accepted` meets its contract. Assumes nothing.
 use native.Mathlib.Omega.{arith}
 use borrow.Author.Needs.{needs}
 use Rattle.code_word_laws.proofs.Mend.{accepts-not, accepts-clear}

@@ -1,4 +1,4 @@
--- `code_word::corrector::dealt` meets its contract. Assumes nothing.
+-- `code_word_corrector::dealt` meets its contract. Assumes nothing.
 use mathlib.Core.Bool.{Bool}
 use mathlib.Core.Path.{sym, ap}
 use Prim.Native.Nat.{_+_}

@@ -1,4 +1,4 @@
--- `code_word::corrector::errors` meets its contract. The loop has the last three sums and the transform of all so far. Assumes nothing.
+-- `code_word_corrector::errors` meets its contract. The loop has the last three sums and the transform of all so far. Assumes nothing.
 use mathlib.Core.Path.{_≡_, sym}
 use Prim.Native.Nat.{ℕ, suc}
 use Prim.Native.Nat.{_≤_, _<_, _-_}

@@ -1,4 +1,4 @@
--- `code_word::corrector::guess` meets its contract. Assumes nothing.
+-- `code_word_corrector::guess` meets its contract. Assumes nothing.
 use borrow.Author.Needs.{needs}
 use Rattle.code_word_laws.proofs.Mend.{guessed}
 use Rattle.code_word_laws.proofs.Packed.{nibble-lt}

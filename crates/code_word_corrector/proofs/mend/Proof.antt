@@ -1,4 +1,4 @@
--- `code_word::corrector::mend` meets its contract. Assumes nothing.
+-- `code_word_corrector::mend` meets its contract. Assumes nothing.
 use mathlib.Core.List.{List}
 use mathlib.Core.Path.{_≡_, ap, _∙_}
 use Prim.Native.Nat.{ℕ}

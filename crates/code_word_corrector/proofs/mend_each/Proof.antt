@@ -1,4 +1,4 @@
--- `code_word::corrector::mend_each` meets its contract. The loop has the first words done and the rest as it was. Assumes nothing.
+-- `code_word_corrector::mend_each` meets its contract. The loop has the first words done and the rest as it was. Assumes nothing.
 use mathlib.Core.Path.{_≡_, refl, _∙_}
 use Prim.Native.Nat.{_+_, _≤_, _<_, _-_}
 use native.Mathlib.Numerals.{add-one}

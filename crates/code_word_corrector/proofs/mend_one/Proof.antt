@@ -1,4 +1,4 @@
--- `code_word::corrector::mend_one` meets its contract. The error that is tested is the one that is taken off. Assumes nothing.
+-- `code_word_corrector::mend_one` meets its contract. The error that is tested is the one that is taken off. Assumes nothing.
 use native.Mathlib.Omega.{arith}
 use borrow.Author.Needs.{needs}
 use Rattle.gf16.proofs.Laws.{product-lt}

@@ -1,4 +1,4 @@
--- `code_word::encoder::divide` meets its contract: each turn feeds the semi-octet in front of those fed before. Assumes nothing.
+-- `code_word_encoder::divide` meets its contract: each turn feeds the semi-octet in front of those fed before. Assumes nothing.
 use mathlib.Core.Path.{_≡_, ap, _∙_}
 use Prim.Native.Nat.{ℕ, _-_, _≤_}
 use native.Mathlib.Omega.{arith}

@@ -1,4 +1,4 @@
--- `code_word::encoder::pour` meets its contract: what is still to be poured in front of what stands gives the result. Assumes nothing.
+-- `code_word_encoder::pour` meets its contract: what is still to be poured in front of what stands gives the result. Assumes nothing.
 use mathlib.Core.Path.{_≡_}
 use Prim.Native.Nat.{_≤_}
 use native.Mathlib.Omega.{arith}

@@ -1,4 +1,4 @@
--- `code_word::encoder::rows` meets its contract: each table is computed from the field. Assumes nothing.
+-- `code_word_encoder::rows` meets its contract: each table is computed from the field. Assumes nothing.
 use mathlib.Core.Path.{_≡_, refl}
 use Prim.Native.Nat.{ℕ}
 use native.Mathlib.Omega.{arith}

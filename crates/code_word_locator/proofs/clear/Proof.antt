@@ -1,4 +1,4 @@
--- `code_word::corrector::clear` meets its contract. Assumes nothing.
+-- `code_word_locator::clear` meets its contract. Assumes nothing.
 use mathlib.Core.Path.{_≡_}
 use Prim.Native.Nat.{_+_}
 use native.Mathlib.Omega.{arith}

@@ -1,4 +1,4 @@
--- `code_word::corrector::crossed` meets its contract. Assumes nothing.
+-- `code_word_locator::crossed` meets its contract. Assumes nothing.
 use borrow.Author.Needs.{needs}
 use Rattle.code_word_laws.proofs.Turns.{crossed-is}
 use Rattle.code_word_locator.proofs.crossed.Statement.{statement}

@@ -1,4 +1,4 @@
--- `code_word::corrector::inverted` meets its contract. Assumes nothing.
+-- `code_word_locator::inverted` meets its contract. Assumes nothing.
 use mathlib.Core.Path.{_≡_, ap, _∙_}
 use Prim.Native.Nat.{ℕ, _<_}
 use native.Mathlib.Omega.{arith}

@@ -1,4 +1,4 @@
--- `code_word::corrector::logarithm` meets its contract. Assumes nothing.
+-- `code_word_locator::logarithm` meets its contract. Assumes nothing.
 use mathlib.Core.Path.{_≡_, ap, _∙_}
 use Prim.Native.Nat.{ℕ}
 use native.Mathlib.Omega.{arith}

@@ -1,4 +1,4 @@
--- `code_word::corrector::row` meets its contract. Assumes nothing.
+-- `code_word_locator::row` meets its contract. Assumes nothing.
 use mathlib.Core.Path.{_≡_, ap, ap₂, _∙_}
 use Prim.Native.Nat.{ℕ, _+_, _*_}
 use native.Mathlib.Omega.{arith}

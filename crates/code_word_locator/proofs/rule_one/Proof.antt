@@ -1,4 +1,4 @@
--- `code_word::corrector::rule_one` meets its contract. Assumes nothing.
+-- `code_word_locator::rule_one` meets its contract. Assumes nothing.
 use mathlib.Core.Path.{_≡_, refl}
 use native.Mathlib.Omega.{arith}
 use borrow.Author.Needs.{needs}

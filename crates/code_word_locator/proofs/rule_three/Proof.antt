@@ -1,4 +1,4 @@
--- `code_word::corrector::rule_three` meets its contract. Assumes nothing.
+-- `code_word_locator::rule_three` meets its contract. Assumes nothing.
 use borrow.Author.Needs.{needs}
 use Rattle.code_word_laws.proofs.Levels.{rule-three-done}
 use Rattle.code_word_laws.proofs.Packed.{nibble-lt}

@@ -1,4 +1,4 @@
--- `code_word::corrector::ruled` meets its contract. Assumes nothing.
+-- `code_word_locator::ruled` meets its contract. Assumes nothing.
 use mathlib.Core.Path.{_≡_, sym, _∙_}
 use native.Mathlib.Omega.{arith}
 use borrow.Author.Needs.{needs}

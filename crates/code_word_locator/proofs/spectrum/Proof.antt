@@ -1,4 +1,4 @@
--- `code_word::corrector::spectrum` meets its contract. The loop has the spectrum of the semi-octets passed. Assumes nothing.
+-- `code_word_locator::spectrum` meets its contract. The loop has the spectrum of the semi-octets passed. Assumes nothing.
 use Prim.Native.Nat.{_≤_, _-_}
 use native.Mathlib.Omega.{arith}
 use lib.ListN.{length, getD}

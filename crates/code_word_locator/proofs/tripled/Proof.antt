@@ -1,4 +1,4 @@
--- `code_word::corrector::tripled` meets its contract. Assumes nothing.
+-- `code_word_locator::tripled` meets its contract. Assumes nothing.
 use borrow.Author.Needs.{needs}
 use Rattle.code_word_laws.proofs.Turns.{tripled-is}
 use Rattle.code_word_locator.proofs.tripled.Statement.{statement}

@@ -1,4 +1,4 @@
--- `code_word::corrector::window` meets its contract. Assumes nothing.
+-- `code_word_locator::window` meets its contract. Assumes nothing.
 use mathlib.Core.Path.{_≡_, sym, ap}
 use Prim.Native.Nat.{ℕ, _+_, _^_}
 use native.Mathlib.Omega.{arith}

@@ -1,4 +1,4 @@
--- `frame::bits::bit_at` meets its contract. Assumes nothing.
+-- `frame_bits::bit_at` meets its contract. Assumes nothing.
 use native.Mathlib.Omega.{arith}
 use borrow.Author.Needs.{needs}
 use Rattle.frame_bits.proofs.bit_at.Statement.{statement}

@@ -1,4 +1,4 @@
--- `frame::bits::bits_at` meets its contract. The invariant of its loop stands at the head. Assumes nothing.
+-- `frame_bits::bits_at` meets its contract. The invariant of its loop stands at the head. Assumes nothing.
 use mathlib.Core.Path.{_≡_}
 use Prim.Native.Nat.{_-_, _≤_}
 use native.Mathlib.Omega.{arith}

@@ -1,4 +1,4 @@
--- `frame::bits::read_bits` meets its contract. Assumes nothing.
+-- `frame_bits::read_bits` meets its contract. Assumes nothing.
 use mathlib.Core.Path.{sym, refl}
 use denote.Ref.{now}
 use borrow.Author.Needs.{needs}

@@ -1,4 +1,4 @@
--- `frame::coder::decode` meets its contract. By the symbol found and the refill behind it. Assumes nothing.
+-- `frame_coder::decode` meets its contract. By the symbol found and the refill behind it. Assumes nothing.
 use mathlib.Core.Path.{refl, sym, _∙_}
 use native.Mathlib.Omega.{arith}
 use borrow.Author.Needs.{needs}

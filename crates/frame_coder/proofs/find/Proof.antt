@@ -1,4 +1,4 @@
--- `frame::coder::find` meets its contract. The loop carries the scaled entries round the symbol reached; the row rises, so it is the largest. Assumes nothing.
+-- `frame_coder::find` meets its contract. The loop carries the scaled entries round the symbol reached; the row rises, so it is the largest. Assumes nothing.
 use mathlib.Core.Path.{_≡_, sym, ap}
 use Prim.Native.Nat.{ℕ, _+_, _-_, _*_, _≤_, _<_}
 use native.Mathlib.Omega.{arith}

@@ -1,4 +1,4 @@
--- `frame::coder::start` meets its contract. The three bytes are read; the bounds follow. Assumes nothing.
+-- `frame_coder::start` meets its contract. The three bytes are read; the bounds follow. Assumes nothing.
 use native.Mathlib.Omega.{arith}
 use borrow.Author.Needs.{needs}
 use Rattle.frame_coder.proofs.start.Statement.{statement}

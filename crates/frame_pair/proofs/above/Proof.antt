@@ -1,4 +1,4 @@
--- `frame::pairs::above` meets its contract. The shift loses nothing. Assumes nothing.
+-- `frame_pair::above` meets its contract. The shift loses nothing. Assumes nothing.
 use borrow.Author.Needs.{needs}
 use Rattle.frame_pair.proofs.above.Statement.{statement}
 use Rattle.frame_pair.proofs.above.Tie as tie

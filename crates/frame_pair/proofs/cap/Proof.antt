@@ -1,4 +1,4 @@
--- `frame::pairs::cap` meets its contract. By the two cases of the level. Assumes nothing.
+-- `frame_pair::cap` meets its contract. By the two cases of the level. Assumes nothing.
 use Rattle.frame_pair.proofs.cap.Statement.{statement}
 use Rattle.frame_pair.proofs.cap.Tie as tie
 use native.Mathlib.Omega.{arith}

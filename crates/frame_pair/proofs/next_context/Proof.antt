@@ -1,4 +1,4 @@
--- `frame::pairs::next_context` meets its contract. By the two cases of the capped level. Assumes nothing.
+-- `frame_pair::next_context` meets its contract. By the two cases of the capped level. Assumes nothing.
 use borrow.Author.Needs.{needs}
 use Rattle.frame_pair.proofs.next_context.Statement.{statement}
 use Rattle.frame_pair.proofs.next_context.Tie as tie

@@ -1,4 +1,4 @@
--- `frame::pairs::read_last` meets its contract. The loop has the rest of the escapes equal to the whole. Assumes nothing.
+-- `frame_pair::read_last` meets its contract. The loop has the rest of the escapes equal to the whole. Assumes nothing.
 use Rattle.frame_pair.proofs.read_last.Statement.{statement}
 use Rattle.frame_pair.proofs.read_last.Tie as tie
 use mathlib.Core.Path.{_≡_, refl, sym, ap, _∙_}

@@ -1,4 +1,4 @@
--- `frame::pairs::read_pair` meets its contract. `rest` is the pair behind its last symbol. Assumes nothing.
+-- `frame_pair::read_pair` meets its contract. `rest` is the pair behind its last symbol. Assumes nothing.
 use borrow.Author.Needs.{needs}
 use Rattle.frame_pair.proofs.read_pair.Statement.{statement}
 use Rattle.frame_pair.proofs.read_pair.Tie as tie

@@ -1,4 +1,4 @@
--- `frame::pairs::read_plane` meets its contract. The bits late, missing, or both there; each makes the value grow. Assumes nothing.
+-- `frame_pair::read_plane` meets its contract. The bits late, missing, or both there; each makes the value grow. Assumes nothing.
 use borrow.Author.Needs.{needs}
 use Rattle.frame_pair.proofs.read_plane.Statement.{statement}
 use Rattle.frame_pair.proofs.read_plane.Tie as tie

@@ -1,4 +1,4 @@
--- `frame::pairs::read_sign` meets its contract. No bit for 0. Assumes nothing.
+-- `frame_pair::read_sign` meets its contract. No bit for 0. Assumes nothing.
 use borrow.Author.Needs.{needs}
 use Rattle.frame_pair.proofs.read_sign.Statement.{statement}
 use Rattle.frame_pair.proofs.read_sign.Tie as tie

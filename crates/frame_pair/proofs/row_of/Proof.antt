@@ -1,4 +1,4 @@
--- `frame::pairs::row_of` meets its contract. The entry that the lookup names. Assumes nothing.
+-- `frame_pair::row_of` meets its contract. The entry that the lookup names. Assumes nothing.
 use borrow.Author.Needs.{needs}
 use Rattle.frame_pair.proofs.row_of.Statement.{statement}
 use Rattle.frame_pair.proofs.row_of.Tie as tie

@@ -1,4 +1,4 @@
--- `frame::pairs::base_of` meets its contract. By the side of NE / 2. Assumes nothing.
+-- `frame_pairs::base_of` meets its contract. By the side of NE / 2. Assumes nothing.
 use borrow.Author.Needs.{needs}
 use Rattle.frame_pairs.proofs.base_of.Statement.{statement}
 use Rattle.frame_pairs.proofs.base_of.Tie as tie

@@ -1,4 +1,4 @@
--- `frame::pairs::line` meets its contract. By the sign. Assumes nothing.
+-- `frame_pairs::line` meets its contract. By the sign. Assumes nothing.
 use borrow.Author.Needs.{needs}
 use Rattle.frame_pairs.proofs.line.Statement.{statement}
 use Rattle.frame_pairs.proofs.line.Tie as tie

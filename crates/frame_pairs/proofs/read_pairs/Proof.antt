@@ -1,4 +1,4 @@
--- `frame::pairs::read_pairs` meets its contract. The loop has the rest of the pairs equal to the whole. Assumes nothing.
+-- `frame_pairs::read_pairs` meets its contract. The loop has the rest of the pairs equal to the whole. Assumes nothing.
 use Rattle.frame_pairs.proofs.read_pairs.Statement.{statement}
 use Rattle.frame_pairs.proofs.read_pairs.Tie as tie
 use mathlib.Core.Path.{_≡_, sym, ap, _∙_}

@@ -1,4 +1,4 @@
--- `frame::pairs::store` meets its contract. Two lines. Assumes nothing.
+-- `frame_pairs::store` meets its contract. Two lines. Assumes nothing.
 use borrow.Author.Needs.{needs}
 use Rattle.frame_pairs.proofs.store.Statement.{statement}
 use Rattle.frame_pairs.proofs.store.Tie as tie

@@ -1,4 +1,4 @@
--- `frame::residual::bits_left` meets its contract. Assumes nothing.
+-- `frame_residual::bits_left` meets its contract. Assumes nothing.
 use borrow.Author.Needs.{needs}
 use Rattle.frame_residual.proofs.bits_left.Statement.{statement}
 use Rattle.frame_residual.proofs.bits_left.Tie as tie

@@ -1,4 +1,4 @@
--- `frame::residual::born` meets its contract. Assumes nothing.
+-- `frame_residual::born` meets its contract. Assumes nothing.
 use borrow.Author.Needs.{needs}
 use Rattle.frame_residual.proofs.born.Statement.{statement}
 use Rattle.frame_residual.proofs.born.Tie as tie

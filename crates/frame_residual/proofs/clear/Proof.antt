@@ -1,4 +1,4 @@
--- `frame::residual::clear` meets its contract. The invariant: the first i entries are 0. Assumes nothing.
+-- `frame_residual::clear` meets its contract. The invariant: the first i entries are 0. Assumes nothing.
 use Rattle.frame_residual.proofs.clear.Statement.{statement}
 use Rattle.frame_residual.proofs.clear.Tie as tie
 use mathlib.Core.Path.{_≡_, refl}

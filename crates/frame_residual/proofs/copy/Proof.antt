@@ -1,4 +1,4 @@
--- `frame::residual::copy` meets its contract. The invariant: the first i lines are copied. Assumes nothing.
+-- `frame_residual::copy` meets its contract. The invariant: the first i lines are copied. Assumes nothing.
 use Rattle.frame_residual.proofs.copy.Statement.{statement}
 use Rattle.frame_residual.proofs.copy.Tie as tie
 use mathlib.Core.Path.{_≡_, refl, ap, _∙_}

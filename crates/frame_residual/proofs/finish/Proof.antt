@@ -1,4 +1,4 @@
--- `frame::residual::finish` meets its contract. Assumes nothing.
+-- `frame_residual::finish` meets its contract. Assumes nothing.
 use borrow.Author.Needs.{needs}
 use Rattle.frame_residual.proofs.finish.Statement.{statement}
 use Rattle.frame_residual.proofs.finish.Tie as tie

@@ -1,4 +1,4 @@
--- `frame::residual::further` meets its contract. Assumes nothing.
+-- `frame_residual::further` meets its contract. Assumes nothing.
 use Rattle.frame_residual.proofs.further.Statement.{statement}
 use Rattle.frame_residual.proofs.further.Tie as tie
 use Rattle.frame_residual.proofs.LateBits.{less, more}

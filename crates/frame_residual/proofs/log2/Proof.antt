@@ -1,4 +1,4 @@
--- `frame::residual::log2` meets its contract. The invariant: the largest power is to be found among the first k. Assumes nothing.
+-- `frame_residual::log2` meets its contract. The invariant: the largest power is to be found among the first k. Assumes nothing.
 use Rattle.frame_residual.proofs.log2.Statement.{statement}
 use Rattle.frame_residual.proofs.log2.Tie as tie
 use mathlib.Core.Path.{_≡_, refl, _∙_}

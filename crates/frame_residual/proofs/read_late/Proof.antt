@@ -1,4 +1,4 @@
--- `frame::residual::read_late` meets its contract. Assumes nothing.
+-- `frame_residual::read_late` meets its contract. Assumes nothing.
 use borrow.Author.Needs.{needs}
 use Rattle.frame_residual.proofs.read_late.Statement.{statement}
 use Rattle.frame_residual.proofs.read_late.Tie as tie

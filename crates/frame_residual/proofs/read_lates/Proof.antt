@@ -1,4 +1,4 @@
--- `frame::residual::read_lates` meets its contract. The invariant: what is still to be read gives the whole, and the lines to come have room.
+-- `frame_residual::read_lates` meets its contract. The invariant: what is still to be read gives the whole, and the lines to come have room.
 -- Assumes nothing.
 use Rattle.frame_residual.proofs.read_lates.Statement.{statement}
 use Rattle.frame_residual.proofs.read_lates.Tie as tie

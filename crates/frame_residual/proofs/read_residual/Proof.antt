@@ -1,4 +1,4 @@
--- `frame::residual::read_residual` meets its contract. The invariant: what is still to be read gives the whole. Assumes nothing.
+-- `frame_residual::read_residual` meets its contract. The invariant: what is still to be read gives the whole. Assumes nothing.
 use Rattle.frame_residual.proofs.read_residual.Statement.{statement}
 use Rattle.frame_residual.proofs.read_residual.Tie as tie
 use mathlib.Core.Path.{_≡_, sym, _∙_}

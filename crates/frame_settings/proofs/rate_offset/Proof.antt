@@ -1,4 +1,4 @@
--- `frame::settings::rate_offset` meets its contract. Assumes nothing.
+-- `frame_settings::rate_offset` meets its contract. Assumes nothing.
 use native.Mathlib.Omega.{arith}
 use borrow.Author.Needs.{needs}
 use borrow.Author.Tests.{lt-ltb, le-ltb}

@@ -1,4 +1,4 @@
--- `frame::settings::rate_setting` meets its contract. Assumes nothing.
+-- `frame_settings::rate_setting` meets its contract. Assumes nothing.
 use mathlib.Core.Path.{sym, _∙_, refl}
 use native.Mathlib.Omega.{arith}
 use borrow.Author.Needs.{needs}

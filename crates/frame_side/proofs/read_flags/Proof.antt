@@ -1,4 +1,4 @@
--- `frame::side::read_flags` meets its contract. No field leaves the frame. Assumes nothing.
+-- `frame_side::read_flags` meets its contract. No field leaves the frame. Assumes nothing.
 use mathlib.Core.Path.{sym}
 use Prim.Native.Nat.{_-_, _<_}
 use native.Mathlib.Omega.{arith}

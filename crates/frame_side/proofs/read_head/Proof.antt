@@ -1,4 +1,4 @@
--- `frame::side::read_head` meets its contract. No field leaves the frame, so a cause is 1 or 2. Assumes nothing.
+-- `frame_side::read_head` meets its contract. No field leaves the frame, so a cause is 1 or 2. Assumes nothing.
 use mathlib.Core.Path.{sym}
 use Prim.Native.Nat.{_-_, _<_}
 use native.Mathlib.Omega.{arith}

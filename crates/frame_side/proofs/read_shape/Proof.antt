@@ -1,4 +1,4 @@
--- `frame::side::read_shape` meets its contract. No field leaves the frame, so a cause is 3. Assumes nothing.
+-- `frame_side::read_shape` meets its contract. No field leaves the frame, so a cause is 3. Assumes nothing.
 use mathlib.Core.Path.{sym, refl}
 use Prim.Native.Nat.{_+_, _-_}
 use native.Mathlib.Omega.{arith}

@@ -1,4 +1,4 @@
--- `frame::side::read_side` meets its contract. Each part is read as its definition says, one after the other. Assumes nothing.
+-- `frame_side::read_side` meets its contract. Each part is read as its definition says, one after the other. Assumes nothing.
 use mathlib.Core.Path.{_≡_, sym}
 use native.Mathlib.Omega.{arith}
 use denote.Ref.{now}

@@ -1,4 +1,4 @@
--- `frame::side::second_flag` meets its contract. Assumes nothing.
+-- `frame_side::second_flag` meets its contract. Assumes nothing.
 use native.Mathlib.Omega.{arith}
 use borrow.Author.Tests.{lt-ltb, le-ltb}
 use Rattle.frame_side.proofs.second_flag.Statement.{statement}

@@ -1,4 +1,4 @@
--- `frame::read_spectral` meets its contract. Assumes nothing.
+-- `frame_spectral::read_spectral` meets its contract. Assumes nothing.
 use borrow.Author.Needs.{needs}
 use Rattle.frame_spectral.proofs.read_spectral.Statement.{statement}
 use Rattle.frame_spectral.proofs.read_spectral.Tie as tie

@@ -1,4 +1,4 @@
--- `frame::tns::coefficients` meets its contract. The loop keeps what is still to be read equal to the whole. Assumes nothing.
+-- `frame_tns::coefficients` meets its contract. The loop keeps what is still to be read equal to the whole. Assumes nothing.
 use mathlib.Core.Path.{_≡_, sym, _∙_}
 use Prim.Native.Nat.{_+_, _-_, _≤_}
 use native.Mathlib.Omega.{arith}

@@ -1,4 +1,4 @@
--- `frame::tns::filter` meets its contract. Each return is one of the definition's answers. Assumes nothing.
+-- `frame_tns::filter` meets its contract. Each return is one of the definition's answers. Assumes nothing.
 use mathlib.Core.Path.{_≡_, sym, ap}
 use Prim.Native.Nat.{_+_, _≤_}
 use native.Mathlib.Omega.{arith}

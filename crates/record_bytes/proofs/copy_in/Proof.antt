@@ -1,4 +1,4 @@
--- `record::put::copy_in` meets its contract. The invariant: the first i bytes are copied. Assumes nothing.
+-- `record_bytes::copy_in` meets its contract. The invariant: the first i bytes are copied. Assumes nothing.
 use mathlib.Core.Path.{_≡_, refl, ap, _∙_}
 use Prim.Native.Nat.{_≤_, _-_}
 use native.Mathlib.Omega.{arith}

@@ -1,4 +1,4 @@
--- `record::put::end_number` meets its contract. Assumes nothing.
+-- `record_bytes::end_number` meets its contract. Assumes nothing.
 use mathlib.Core.Path.{refl}
 use borrow.Author.Needs.{needs}
 use Rattle.record_bytes.proofs.end_number.Tie as tie

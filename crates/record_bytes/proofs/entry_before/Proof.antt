@@ -1,4 +1,4 @@
--- `record::walk::entry_before` meets its contract: each way out is a law of one step. Assumes nothing.
+-- `record_bytes::entry_before` meets its contract: each way out is a law of one step. Assumes nothing.
 use mathlib.Core.Bool.{true, false}
 use mathlib.Core.Path.{_≡_, sym, _∙_}
 use Prim.Native.Nat.{_-_}

@@ -1,4 +1,4 @@
--- `record::walk::in_range` meets its contract, arm by arm. Assumes nothing.
+-- `record_bytes::in_range` meets its contract, arm by arm. Assumes nothing.
 use native.Mathlib.Omega.{arith}
 use borrow.Author.Tests.{le-leb, lt-leb}
 use Rattle.record_bytes.proofs.in_range.Tie as tie

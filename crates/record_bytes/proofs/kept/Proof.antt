@@ -1,4 +1,4 @@
--- `record::walk::kept` meets its contract. Assumes nothing.
+-- `record_bytes::kept` meets its contract. Assumes nothing.
 use borrow.Author.Tests.{eq-eqb, ne-eqb}
 use Rattle.record_bytes.proofs.kept.Tie as tie
 use Rattle.record_bytes.proofs.kept.Statement.{statement}

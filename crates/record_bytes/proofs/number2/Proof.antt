@@ -1,4 +1,4 @@
--- `record::walk::number2` meets its contract. Assumes nothing.
+-- `record_bytes::number2` meets its contract. Assumes nothing.
 use native.Mathlib.Omega.{arith}
 use denote.Ref.{now}
 use borrow.Author.Needs.{needs}

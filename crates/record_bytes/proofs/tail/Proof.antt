@@ -1,4 +1,4 @@
--- `record::put::tail` meets its contract. Assumes nothing.
+-- `record_bytes::tail` meets its contract. Assumes nothing.
 use borrow.Author.Needs.{needs}
 use Rattle.record_bytes.proofs.tail.Tie as tie
 use Rattle.record_bytes.specs.Steps.{tailOf}

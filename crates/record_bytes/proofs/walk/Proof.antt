@@ -1,4 +1,4 @@
--- `record::walk::walk` meets its contract. The invariant is `Walking`: what is left to read gives, with the later entries, the whole. Assumes nothing.
+-- `record_bytes::walk` meets its contract. The invariant is `Walking`: what is left to read gives, with the later entries, the whole. Assumes nothing.
 use mathlib.Core.Path.{sym, _∙_, refl}
 use Prim.Native.Nat.{_≤_}
 use native.Mathlib.Omega.{arith}

@@ -1,4 +1,4 @@
--- `record::listing::list` meets its contract: each way out puts the listing of what was read. Assumes nothing.
+-- `record_listing::list` meets its contract: each way out puts the listing of what was read. Assumes nothing.
 use mathlib.Core.List.{_++_}
 use mathlib.Core.Path.{_≡_, sym, ap, _∙_}
 use Prim.Native.Nat.{_≤_}

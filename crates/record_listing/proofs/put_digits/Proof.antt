@@ -1,4 +1,4 @@
--- `record::listing::put_digits` meets its contract. The invariant is `Spelling`: the digits of what is left go in front. Assumes nothing.
+-- `record_listing::put_digits` meets its contract. The invariant is `Spelling`: the digits of what is left go in front. Assumes nothing.
 use mathlib.Core.Path.{_≡_, refl}
 use Prim.Native.Nat.{_+_, _-_}
 use native.Mathlib.Omega.{arith}

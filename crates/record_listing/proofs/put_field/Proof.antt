@@ -1,4 +1,4 @@
--- `record::listing::put_field` meets its contract. Assumes nothing.
+-- `record_listing::put_field` meets its contract. Assumes nothing.
 use mathlib.Core.Path.{_≡_}
 use Prim.Native.Nat.{_-_}
 use native.Mathlib.Omega.{arith}

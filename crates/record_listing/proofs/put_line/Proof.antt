@@ -1,4 +1,4 @@
--- `record::listing::put_line` meets its contract: four fields, each in front of the one before. Assumes nothing.
+-- `record_listing::put_line` meets its contract: four fields, each in front of the one before. Assumes nothing.
 use native.Mathlib.Omega.{arith}
 use denote.Ref.{now}
 use borrow.Author.Needs.{needs}

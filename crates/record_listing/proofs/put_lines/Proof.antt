@@ -1,4 +1,4 @@
--- `record::listing::put_lines` meets its contract. The invariant is `Lining`: the lines of the later entries stand. Assumes nothing.
+-- `record_listing::put_lines` meets its contract. The invariant is `Lining`: the lines of the later entries stand. Assumes nothing.
 use mathlib.Core.Path.{_≡_, refl, sym, _∙_}
 use Prim.Native.Nat.{_≤_}
 use native.Mathlib.Omega.{arith}

@@ -15,17 +15,17 @@ use borrow.Author.Tests.{not-true, not-false}
 first-hash-size-requires : tie.Need-first-hash-size-requires
 first-hash-size-requires c κs = search needs
 
-mul-h : tie.Need-mul-h
-mul-h c = search needs
+mul-heading : tie.Need-mul-heading
+mul-heading c = search needs
 
 second-hash-size-requires : tie.Need-second-hash-size-requires
 second-hash-size-requires c κs = search needs
 
-mul-h-2 : tie.Need-mul-h-2
-mul-h-2 c = search needs
+mul-heading-2 : tie.Need-mul-heading-2
+mul-heading-2 c = search needs
 
-add-h : tie.Need-add-h
-add-h c = search needs
+add-heading : tie.Need-add-heading
+add-heading c = search needs
 
 matches-requires : tie.Need-matches-requires
 matches-requires c κs = search needs
@@ -80,10 +80,10 @@ deliver-spec =
     tie.close
     (tie.spec
     first-hash-size-requires
-    mul-h
+    mul-heading
     second-hash-size-requires
-    mul-h-2
-    add-h
+    mul-heading-2
+    add-heading
     matches-requires
     returns
     sub-roll

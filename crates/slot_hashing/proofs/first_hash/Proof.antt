@@ -1,4 +1,4 @@
--- `slot::hashing::first_hash` meets its contract. Assumes nothing.
+-- `slot_hashing::first_hash` meets its contract. Assumes nothing.
 use Rattle.slot_hashing.proofs.HashSteps.{first-forty, first-other}
 use Rattle.slot_hashing.proofs.HashTable.{rows-raised, rows-twenty-two}
 use Rattle.slot_hashing.proofs.HashFours.{fours-raised, fours-twenty-two}

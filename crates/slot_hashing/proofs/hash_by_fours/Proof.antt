@@ -1,4 +1,4 @@
--- `slot::hashing::hash_by_fours` meets its contract. The invariant of its loop stands at the head. Assumes nothing.
+-- `slot_hashing::hash_by_fours` meets its contract. The invariant of its loop stands at the head. Assumes nothing.
 use Rattle.slot_hashing.proofs.HashSteps.{hash-rest, hash-next-four}
 use Rattle.slot_laws.specs.Hash.{hash, bitsOf}
 use native.Mathlib.Omega.{arith}

@@ -1,4 +1,4 @@
--- `slot::hashing::hash_of` meets its contract. The invariant of its loop stands at the head. Assumes nothing.
+-- `slot_hashing::hash_of` meets its contract. The invariant of its loop stands at the head. Assumes nothing.
 use lib.Pow.{pow-pos}
 use Rattle.slot_hashing.proofs.HashSteps.{hash-first, hash-next}
 use Rattle.slot_laws.specs.Hash.{hash, bitsOf}

@@ -1,4 +1,4 @@
--- `slot::hashing::push` meets its contract. Assumes nothing.
+-- `slot_hashing::push` meets its contract. Assumes nothing.
 use Rattle.slot_hashing.proofs.HashSteps.{degree-fits, remainder-fits, top-bit, push-is}
 use Rattle.laws.proofs.Digit.{digit-lt}
 use native.Mathlib.Omega.{arith}

@@ -1,4 +1,4 @@
--- `slot::hashing::push_four` meets its contract. Assumes nothing.
+-- `slot_hashing::push_four` meets its contract. Assumes nothing.
 use Rattle.slot_hashing.proofs.HashFours.{not-none-four, low-fits-four, upper-lt, four-step}
 use native.Mathlib.Omega.{arith}
 use mathlib.Core.Path.{refl}

@@ -1,4 +1,4 @@
--- `slot::hashing::push_semi` meets its contract. Assumes nothing.
+-- `slot_hashing::push_semi` meets its contract. Assumes nothing.
 use Rattle.slot_hashing.proofs.HashTable.{not-none, low-fits, place-lt, semi-step}
 use native.Mathlib.Omega.{arith}
 use mathlib.Core.Path.{refl}

@@ -1,4 +1,4 @@
--- `slot::hashing::second_hash` meets its contract. Assumes nothing.
+-- `slot_hashing::second_hash` meets its contract. Assumes nothing.
 use Rattle.slot_hashing.proofs.HashSteps.{second-is}
 use Rattle.slot_hashing.proofs.HashTable.{rows-sixteen}
 use Rattle.slot_hashing.proofs.HashFours.{fours-sixteen}

@@ -1,4 +1,4 @@
--- `slot::hashing::with_request` meets its contract. Assumes nothing.
+-- `slot_hashing::with_request` meets its contract. Assumes nothing.
 use borrow.Author.Needs.{needs}
 use Rattle.slot_hashing.proofs.with_request.Statement.{statement}
 use Rattle.slot_hashing.proofs.with_request.Tie as tie

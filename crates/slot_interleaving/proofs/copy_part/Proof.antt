@@ -1,4 +1,4 @@
--- `slot::interleaving::copy_part` meets its contract. The invariant of its loop stands at the head. Assumes nothing.
+-- `slot_interleaving::copy_part` meets its contract. The invariant of its loop stands at the head. Assumes nothing.
 use Rattle.slot_interleaving.proofs.PlaceSteps.{copy-is}
 use Rattle.laws.proofs.Fill.{Filled, filled-first, filled-next}
 use lib.ListN.{length, getD}

@@ -1,4 +1,4 @@
--- `slot::interleaving::place_word` meets its contract. Assumes nothing.
+-- `slot_interleaving::place_word` meets its contract. Assumes nothing.
 use Rattle.slot_interleaving.proofs.PlaceSteps.{word-scattered}
 use borrow.Author.Needs.{needs}
 use Rattle.slot_interleaving.proofs.place_word.Statement.{statement}

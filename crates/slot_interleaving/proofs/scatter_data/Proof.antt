@@ -1,4 +1,4 @@
--- `slot::interleaving::scatter_data` meets its contract. The invariant of its loop stands at the head. Assumes nothing.
+-- `slot_interleaving::scatter_data` meets its contract. The invariant of its loop stands at the head. Assumes nothing.
 use Rattle.slot_laws.proofs.Sizes.{length-high, checks-fit}
 use Rattle.slot_interleaving.proofs.PlaceSteps.{span-none, span-up, span-end, place-below, place-is, added-row}
 use Rattle.gf16.specs.Field.{sum}

@@ -1,4 +1,4 @@
--- `slot::interleaving::signature_row` meets its contract. Assumes nothing.
+-- `slot_interleaving::signature_row` meets its contract. Assumes nothing.
 use mathlib.Core.Path.{refl}
 use Rattle.slot_interleaving.proofs.PlaceSteps.{signature-none, signature-some, row-two, row-three, row-four}
 use native.Mathlib.Omega.{arith}

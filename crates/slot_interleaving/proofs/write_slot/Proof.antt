@@ -1,4 +1,4 @@
--- `slot::interleaving::write_slot` meets its contract. The invariant of its loop stands at the head. Assumes nothing.
+-- `slot_interleaving::write_slot` meets its contract. The invariant of its loop stands at the head. Assumes nothing.
 use Rattle.slot_interleaving.proofs.PlaceSteps.{placed-first, placed-next, placed-below, part-long, part-below, part-scattered, at-next, start-first, written}
 use Rattle.slot_laws.proofs.RoomSteps.{before-end}
 use Rattle.slot_laws.proofs.Slot.{all-words, signature-lt}

@@ -1,4 +1,4 @@
--- `slot::ordering::arrange` meets its contract. Assumes nothing.
+-- `slot_ordering::arrange` meets its contract. Assumes nothing.
 use Rattle.slot_ordering.proofs.OrderSteps.{rest-is, arranged, data-arranged, data-is, frame-fits}
 use native.Mathlib.Omega.{arith}
 use Prim.Native.Nat.{_+_, _*_}

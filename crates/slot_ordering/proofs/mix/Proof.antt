@@ -1,4 +1,4 @@
--- `slot::ordering::mix` meets its contract. Assumes nothing.
+-- `slot_ordering::mix` meets its contract. Assumes nothing.
 use Rattle.slot_ordering.proofs.OrderSteps.{mix-inside, mixed-is}
 use Rattle.slot_laws.proofs.Sizes.{words-low}
 use native.Mathlib.Omega.{arith}

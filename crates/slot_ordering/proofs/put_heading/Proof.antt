@@ -1,4 +1,4 @@
--- `slot::ordering::put_heading` meets its contract. Assumes nothing.
+-- `slot_ordering::put_heading` meets its contract. Assumes nothing.
 use Rattle.slot_ordering.proofs.OrderSteps.{heading-is}
 use lib.Seq.{length-take-le}
 use native.Mathlib.Omega.{arith}

@@ -1,4 +1,4 @@
--- `slot::ordering::put_in_front` meets its contract. Assumes nothing.
+-- `slot_ordering::put_in_front` meets its contract. Assumes nothing.
 use Rattle.slot_ordering.proofs.OrderSteps.{blank, rest-is, front-is}
 use lib.Seq.{length-take-le, length-front}
 use lib.ListN.{drop}

@@ -1,4 +1,4 @@
--- `slot::ordering::put_semis` meets its contract. The invariant of its loop stands at the head. Assumes nothing.
+-- `slot_ordering::put_semis` meets its contract. The invariant of its loop stands at the head. Assumes nothing.
 use Rattle.slot_ordering.proofs.OrderSteps.{digit, left-first, left-next, semis-next, semis-is}
 use Rattle.laws.proofs.Fill.{Filled, filled-first}
 use lib.ListN.{length}

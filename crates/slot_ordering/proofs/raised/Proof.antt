@@ -1,4 +1,4 @@
--- `slot::ordering::raised` meets its contract. Assumes nothing.
+-- `slot_ordering::raised` meets its contract. Assumes nothing.
 use Rattle.slot_ordering.proofs.OrderSteps.{raised-forty, raised-other}
 use native.Mathlib.Omega.{arith}
 use borrow.Author.Needs.{needs}

@@ -1,4 +1,4 @@
--- `slot::ordering::swap` meets its contract. Assumes nothing.
+-- `slot_ordering::swap` meets its contract. Assumes nothing.
 use Rattle.slot_laws.specs.Order.{swapped}
 use native.Mathlib.Omega.{arith}
 use mathlib.Core.Path.{refl}

@@ -1,4 +1,4 @@
--- `slot::ordering::unroll` meets its contract. The invariant of its loop stands at the head. Assumes nothing.
+-- `slot_ordering::unroll` meets its contract. The invariant of its loop stands at the head. Assumes nothing.
 use Rattle.slot_ordering.proofs.OrderSteps.{turned, unroll-next, unrolled-is}
 use Rattle.laws.proofs.Fill.{Filled, filled-first}
 use lib.ListN.{length, getD, length-set}

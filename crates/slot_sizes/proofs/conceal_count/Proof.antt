@@ -1,4 +1,4 @@
--- `slot::geometry::conceal_count` meets its contract. Assumes nothing.
+-- `slot_sizes::conceal_count` meets its contract. Assumes nothing.
 use Rattle.slot_sizes.proofs.SizeSteps.{conceal-small, conceal-three, conceal-four, conceal-other}
 use native.Mathlib.Omega.{arith}
 use mathlib.Core.Path.{sym}

@@ -1,4 +1,4 @@
--- `slot::geometry::conceal_size` meets its contract. The invariant of its loop stands at the head. Assumes nothing.
+-- `slot_sizes::conceal_size` meets its contract. The invariant of its loop stands at the head. Assumes nothing.
 use Rattle.slot_sizes.proofs.SizeSteps.{block-none, block-next, block-last}
 use Rattle.slot_laws.proofs.Sizes.{conceal-few}
 use Rattle.slot_laws.specs.Sizes.{block, words, wordLength, concealWords}

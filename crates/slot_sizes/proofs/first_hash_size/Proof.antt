@@ -1,4 +1,4 @@
--- `slot::geometry::first_hash_size` meets its contract. Assumes nothing.
+-- `slot_sizes::first_hash_size` meets its contract. Assumes nothing.
 use Rattle.slot_sizes.proofs.SizeSteps.{hash1-forty, hash1-other}
 use native.Mathlib.Omega.{arith}
 use mathlib.Core.Path.{sym}

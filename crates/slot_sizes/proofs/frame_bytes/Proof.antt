@@ -1,4 +1,4 @@
--- `slot::geometry::frame_bytes` meets its contract. Assumes nothing.
+-- `slot_sizes::frame_bytes` meets its contract. Assumes nothing.
 use Rattle.slot_sizes.proofs.SizeSteps.{frame-is, check-bytes}
 use native.Mathlib.Omega.{arith}
 use mathlib.Core.Path.{refl}

@@ -1,4 +1,4 @@
--- `slot::geometry::second_hash_size` meets its contract. Assumes nothing.
+-- `slot_sizes::second_hash_size` meets its contract. Assumes nothing.
 use Rattle.slot_sizes.proofs.SizeSteps.{hash2-small, hash2-two, hash2-large}
 use native.Mathlib.Omega.{arith}
 use mathlib.Core.Path.{sym}

@@ -1,4 +1,4 @@
--- `slot::geometry::word_count` meets its contract. Assumes nothing.
+-- `slot_sizes::word_count` meets its contract. Assumes nothing.
 use Rattle.slot_sizes.proofs.SizeSteps.{word-count-is}
 use native.Mathlib.Omega.{arith}
 use mathlib.Core.Path.{refl}

@@ -1,4 +1,4 @@
--- `slot::geometry::word_length` meets its contract. Assumes nothing.
+-- `slot_sizes::word_length` meets its contract. Assumes nothing.
 use Rattle.slot_sizes.proofs.SizeSteps.{word-length-is}
 use Rattle.slot_laws.proofs.Sizes.{words-thirteen}
 use native.Mathlib.Omega.{arith}
