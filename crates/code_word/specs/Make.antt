@@ -1,6 +1,4 @@
--- The code word over given data, by division, and what making a word answers: document 01's number for each case of the enum, and what each
--- number promises.
--- Assumes nothing.
+-- What making a word answers: document 01's number for each case of the enum, and what each number promises. Assumes nothing.
 use mathlib.Core.List.{List}
 use Prim.Native.Nat.{ℕ, zero, suc}
 use Rattle.code_word.specs.declared.Making.{Making}

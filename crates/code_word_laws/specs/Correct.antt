@@ -1,5 +1,4 @@
--- What correcting a word answers: document 01's number and count for each case of the enum, and what each number promises.
--- Assumes nothing.
+-- What correcting leaves of a word, and of many words that stand one after the other. Assumes nothing.
 use mathlib.Core.Path.{_≡_}
 use mathlib.Core.List.{List}
 use Prim.Native.Nat.{ℕ, zero, suc, _+_, _/_, _%_, _<_, _≤_}

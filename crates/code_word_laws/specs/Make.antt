@@ -1,6 +1,4 @@
--- The code word over given data, by division, and what making a word answers: document 01's number for each case of the enum, and what each
--- number promises.
--- Assumes nothing.
+-- The code word over given data, by division (A.43 to A.45), and what it is to make a word. Assumes nothing.
 use mathlib.Core.Path.{_≡_}
 use mathlib.Core.List.{List, [], _∷_, _++_}
 use Prim.Native.Nat.{ℕ, _+_, _-_}

@@ -1,5 +1,5 @@
 -- What the reader's own steps promise each other beside their definitions: bounds of what is read, and cursors that stay inside.
--- No public promise but `Bounded` rests on a line of this. Assumes nothing.
+-- No public promise but `Bounded` of `frame` rests on a line of this. Assumes nothing.
 use mathlib.Core.Path.{_≡_}
 use mathlib.Core.List.{List}
 use Prim.Native.Nat.{ℕ, _+_, _*_, _^_, _<_, _≤_}

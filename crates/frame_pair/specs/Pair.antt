@@ -1,4 +1,4 @@
--- The spectral data (5.4.2.7): pairs of lines, each by escapes and a last symbol, with the context that each leaves to the next.
+-- One pair of lines of the spectral data (5.4.2.7): escapes, a last symbol, the signs, and the context that it leaves to the next.
 -- Assumes nothing.
 use mathlib.Core.Bool.{Bool, cond}
 use mathlib.Core.List.{List}

@@ -1,5 +1,4 @@
--- The spectral data (5.4.2.7): pairs of lines, each by escapes and a last symbol, with the context that each leaves to the next.
--- Assumes nothing.
+-- The spectral data (5.4.2.7): pairs of lines one after the other, from line 0 up. Assumes nothing.
 use mathlib.Core.Bool.{cond}
 use mathlib.Core.List.{List}
 use Prim.Native.Nat.{ℕ, zero, suc, _+_, _*_}

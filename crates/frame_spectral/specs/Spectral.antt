@@ -1,5 +1,4 @@
--- A whole frame (5.4.2), in the order of reading; and what the reader answers: document 01's number, the cause, and the values.
--- Assumes nothing.
+-- The spectral data and what follows them (5.4.2.7, 5.4.2.8), in the order of reading. Assumes nothing.
 use mathlib.Core.Path.{_≡_}
 use mathlib.Core.List.{List}
 use Prim.Native.Nat.{ℕ, _/_}

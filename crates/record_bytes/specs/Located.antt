@@ -1,5 +1,4 @@
--- What each function answers: document 01's number with the values beside it, for each case of its answer and for all input.
--- "A refusal returns its number, zero in every other field, and no lent byte is changed." Assumes nothing.
+-- Where an entry stands in a record. Assumes nothing.
 use mathlib.Core.List.{List, [], _∷_}
 use Prim.Native.Nat.{ℕ, zero, suc, _+_}
 use lib.ListN.{length}

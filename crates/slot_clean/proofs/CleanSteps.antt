@@ -1,6 +1,5 @@
 -- What the code that tells a clean slot asks: the data of a word and its check semi-octets taken from their places, the check semi-octets
--- made anew and compared, and the slot's answer where every word is the code word over its data.
--- Assumes nothing.
+-- made anew and compared, and the loop over the words. Assumes nothing.
 use mathlib.Core.Path.{_≡_, refl, sym, ap, _∙_}
 use mathlib.Core.Bool.{Bool, true, false}
 use mathlib.Core.List.{List, [], _∷_, _++_}

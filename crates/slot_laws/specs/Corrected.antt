@@ -1,5 +1,4 @@
--- What unprotecting answers: document 01's number and values for each case of the enum, and what each number promises.
--- Assumes nothing.
+-- A received slot with every word corrected, and a word that is beyond repair. Assumes nothing.
 use mathlib.Core.List.{List}
 use Prim.Native.Nat.{ℕ, _<_}
 use Rattle.code_word_laws.specs.Correct.{Near}
