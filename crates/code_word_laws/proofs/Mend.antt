@@ -143,6 +143,7 @@ module _ (t : ℕ) (old : List ℕ) (to : t ≤ 3) (short : length old ≤ 15) (
         counted = λ b. e;
         none = λ b. absurd (omega (arith, near .near));
         kept = λ b. absurd (omega (arith, near .near));
+        told = λ b. absurd (omega (arith, near .near));
       }
 
   -- a valid word has no change
@@ -156,9 +157,9 @@ module _ (t : ℕ) (old : List ℕ) (to : t ≤ 3) (short : length old ≤ 15) (
         found-is (mended old e) n counted (near-by (mended old e) (mended-semi-octets old e semi) (mended-length old e) roots (omega arith))
 
     -- a valid word near it would have been found
-    pub mended-refused : (s : ℕ) → Spectrum old s → Guessed t s e → (n ≤ t → Roots (t + t + 1) (mended old e) → ⊥)
-        → Mended (t + 1) old (mended (mended old e) e) (t + 1)
-    mended-refused s spectrum guess not =
+    pub mended-refused : (s k : ℕ) → k ≡ t + 1 → Spectrum old s → Guessed t s e → (n ≤ t → Roots (t + t + 1) (mended old e) → ⊥)
+        → Mended (t + 1) old (mended (mended old e) e) k
+    mended-refused s k is spectrum guess not =
         record {
           found = λ b. absurd (omega arith);
           only = λ b. absurd (omega arith);
@@ -170,14 +171,16 @@ module _ (t : ℕ) (old : List ℕ) (to : t ≤ 3) (short : length old ≤ 15) (
               not (omega (arith, near .near, counted ∙ ap (λ (l : List ℕ). apart old l) e′))
               (λ j p q. ap (λ (l : List ℕ). value l (power 2 j)) e′ ∙ r j p (omega arith));
           kept = λ b. mended-twice old e;
+          told = λ b. is;
         }
 
   pub mend-accepted : (e n : ℕ) (new : List ℕ) {r : Bool} → new ≡ mended old e → n ≡ apart old new → Decides (Acceptable t n new) r → r ≡ true → Mended (t + 1) old new n
   mend-accepted e n new en counted a taken =
       rw en (mended-accepted e n (rw en at counted) (a .holds taken .few) (rw en at (a .holds taken .roots)))
 
-  pub mend-refused : (e n s : ℕ) (new last : List ℕ) {r : Bool} → new ≡ mended old e → n ≡ apart old new → last ≡ mended new e
-      → Spectrum old s → Guessed t s e → Decides (Acceptable t n new) r → r ≡ false → Mended (t + 1) old last (t + 1)
-  mend-refused e n s new last en counted el spectrum guess a left =
+  -- k is the count that is answered then
+  pub mend-refused : (e n s k : ℕ) (new last : List ℕ) {r : Bool} → new ≡ mended old e → n ≡ apart old new → last ≡ mended new e → k ≡ t + 1
+      → Spectrum old s → Guessed t s e → Decides (Acceptable t n new) r → r ≡ false → Mended (t + 1) old last k
+  mend-refused e n s k new last en counted el is spectrum guess a left =
       let back : last ≡ mended (mended old e) e = el ∙ ap (λ (l : List ℕ). mended l e) en in
-      rw back (mended-refused e n (rw en at counted) s spectrum guess (λ few roots. a .fails left (record { few = few; roots = rw en roots })))
+      rw back (mended-refused e n (rw en at counted) s k is spectrum guess (λ few roots. a .fails left (record { few = few; roots = rw en roots })))

@@ -26,6 +26,7 @@ pub record Mended (mode : ℕ) (old new : List ℕ) (count : ℕ) : Type 0 where
   pub counted : count < mode → count ≡ apart old new
   pub none : mode ≤ count → (w : List ℕ) → Near mode old w → ⊥
   pub kept : mode ≤ count → new ≡ old
+  pub told : mode ≤ count → count ≡ mode
 
 -- the word left is the only such one, and the count is that of the places in which the two differ
 pub record IsCorrected (mode : ℕ) (old new : List ℕ) (count : ℕ) : Type 0 where

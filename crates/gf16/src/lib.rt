@@ -2,7 +2,8 @@
 // It stands over nothing. Each operation equals its definition in specs/Field.antt for every value of the inner byte,
 // and proofs/Laws.antt has the field's laws. Nothing outside this crate depends on how a product is computed.
 ghost use mathlib.Core.Path.{_≡_};
-ghost use Prim.Native.Nat.{_*_, _<_};
+ghost use Prim.Native.Nat.{_*_, _%_, _<_};
+ghost use lib.Dec.{eqb};
 ghost use Rattle.gf16.specs.Field.{sum, expanded, reduced, product, inverse};
 
 // An element of the field (document 01: semi-octet). A product and an inverse look at the low four bits; a sum is that of the whole byte.
@@ -12,6 +13,22 @@ impl SemiOctet {
     pub const ZERO: SemiOctet = SemiOctet(0);
 
     pub const ONE: SemiOctet = SemiOctet(1);
+
+    // Whether the low four bits are those of the zero, which has no inverse.
+    pub fn is_zero(a: SemiOctet) -> bool
+        ensures { λ r. ⌜ r ≡ eqb (a .0 % 16) 0 ⌝ }
+    {
+        let zero = SemiOctet::ZERO;
+        a.0 % 16 == zero.0
+    }
+
+    // Whether the low four bits are those of the one, by which nothing changes.
+    pub fn is_one(a: SemiOctet) -> bool
+        ensures { λ r. ⌜ r ≡ eqb (a .0 % 16) 1 ⌝ }
+    {
+        let one = SemiOctet::ONE;
+        a.0 % 16 == one.0
+    }
 
     pub fn sum(a: SemiOctet, b: SemiOctet) -> SemiOctet
         ensures { λ r. ⌜ r .0 ≡ sum (a .0) (b .0) ⌝ }

@@ -97,6 +97,16 @@ total-longer f m (suc d) =
 pub total-up : (f : ℕ → ℕ) (m n : ℕ) → m ≤ n → total f m ≤ total f n
 total-up f m n h = let e : m + (n - m) ≡ n = omega arith in rw e at (total-longer f m (n - m))
 
+-- a sum of n summands of at most c
+pub total-most : (f : ℕ → ℕ) (c n : ℕ) → ((i : ℕ) → i < n → f i ≤ c) → total f n ≤ n * c
+unfolding total
+total-most f c zero h = omega arith
+total-most f c (suc n) h =
+    let e = total-most f c n (λ i p. h i (omega arith)) in
+    let m : suc n * c ≡ n * c + c = suc-mul n c in
+    let k : f n ≤ c = h n (omega arith) in
+    omega arith
+
 -- the last n of m + n summands
 pub total-back : (f : ℕ → ℕ) (m n : ℕ) → total f (m + n) ≡ total f m + total (λ j. f (m + n - 1 - j)) n
 unfolding total

@@ -1,28 +1,37 @@
 -- Document 01's small sums, proved together: each is computed from its definition, the three about the last pair and the bandwidth from
 -- what is read. Assumes nothing.
-use mathlib.Core.Path.{_≡_, refl}
+use mathlib.Core.Path.{_≡_, refl, sym}
 use mathlib.Core.List.{[], _∷_}
-use Prim.Native.Nat.{ℕ, _≤_}
+use Prim.Native.Nat.{ℕ, suc, _+_, _*_, _^_, _≤_}
 use native.Mathlib.Omega.{arith}
+use native.Mathlib.Nat.{pow-suc}
+use lib.Pow.{pow-pos}
 use borrow.Author.Tests.{le-ltb}
 use Rattle.gf16.specs.Field.{product, expanded, reduced, lowered}
 use Rattle.code_word_laws.proofs.Division.{generators}
 use Rattle.slot_laws.specs.Sizes.{words, wordLength}
 use Rattle.frame_settings.specs.Settings.{rateOf}
 use Rattle.frame_side.specs.Side.{headOf}
+use Rattle.frame_pair.specs.Pair.{pairOf}
+use Rattle.frame_pair.proofs.Escaping.{plane-both}
 use Rattle.record_bytes.specs.Layout.{recordBytes, entriesBytes, big}
-use Rattle.silberlaus.specs.SmallSums.{SmallSums}
+use Rattle.silberlaus.specs.SmallSums.{allSet, SmallSums}
+
+-- one bit more, set
+all-set : (n : ℕ) → allSet n + 1 * 2 ^ n ≡ allSet (suc n)
+all-set n = let e = pow-suc 2 n in let p = pow-pos n in omega arith
 
 pub small-sums :
     SmallSums (record { index = 2; lines = 240; bandwidth = 2; pair = 7 }) (record { index = 4; lines = 400; bandwidth = 3; pair = 8 })
-unfolding product expanded reduced lowered words wordLength rateOf headOf recordBytes entriesBytes big
+unfolding product expanded reduced lowered words wordLength rateOf headOf pairOf recordBytes entriesBytes big
 small-sums = record {
   products = (refl, refl);
   polynomials = generators;
   counts = (refl, refl, refl);
   lengths = (refl, refl, refl, refl, refl, refl);
   context = refl;
-  highest = refl;
+  escape = λ s level p q r e f. plane-both s 0 level _ _ p 1 q 1 r _ _ (omega arith) e f (sym (all-set level)) (sym (all-set level));
+  highest = λ s look cum lsb base context p c k e. rw e refl;
   rates = (refl, refl);
   line-400 = λ s b m g h e f k l. rw e (rw (le-ltb 4 b h) (rw f (rw k (rw l refl))));
   past-400 = λ s b h e f. rw e (rw (le-ltb 4 b h) (rw f refl));

@@ -2,23 +2,28 @@
 -- nothing.
 use mathlib.Core.Path.{_≡_}
 use mathlib.Core.List.{List, [], _∷_}
-use Prim.Native.Nat.{ℕ, zero, suc, _+_, _*_, _%_, _^_, _≤_}
+use Prim.Native.Nat.{ℕ, suc, _-_, _^_, _≤_}
 use Rattle.gf16.specs.Field.{product}
 use Rattle.code_word_laws.specs.Polynomial.{generator}
 use Rattle.slot_laws.specs.Sizes.{words, wordLength}
 use Rattle.frame_bits.specs.Read.{value, cause}
 use Rattle.frame_settings.specs.Settings.{rateOf}
-use Rattle.frame_bits.specs.Bits.{readBits}
+use Rattle.frame_bits.specs.Bits.{readBit, readBits}
 use Rattle.frame_side.specs.Side.{headOf}
-use Rattle.frame_pair.specs.Pair.{contextOf}
+use Rattle.frame_pair.specs.Pair.{Streams, planeOf, lastOf, contextOf, signedOf, pairOf}
+use Rattle.frame_pair.specs.declared.Last.{Last}
+use Rattle.frame_coder.specs.declared.Coder.{Coder}
 use Rattle.frame_settings.specs.declared.Setting.{Setting}
 use Rattle.frame_settings.specs.declared.Rate.the-variants as rate
 use Rattle.record_bytes.specs.Layout.{recordBytes}
 
--- a value whose escapes all had a 1, n of them
+-- a value of n bits, all of them set
 abbrev pub allSet : ℕ → ℕ
-allSet zero = 0
-allSet (suc n) = allSet n + 1 * 2 ^ n
+allSet n = 2 ^ n - 1
+
+-- a pair's last symbol behind thirteen escapes, every bit of which was set
+abbrev pub lastSet : Last
+lastSet = record { symbol = 15; x = allSet 13; y = allSet 13; level = 13 }
 
 pub record SmallSums (at24 at48 : Setting) : Type 0 where
   -- "2 x 9 = 1 and 6 x 11 = 15 in the field"
@@ -32,8 +37,13 @@ pub record SmallSums (at24 at48 : Setting) : Type 0 where
       (wordLength 40 0 ≡ 14) × (wordLength 40 1 ≡ 14) × (wordLength 40 2 ≡ 13) × (wordLength 40 3 ≡ 13) × (wordLength 40 4 ≡ 13) × (wordLength 40 5 ≡ 13)
   -- "context 255 with pair (3, 3) at level 1 gives 253"
   pub context : contextOf 255 3 3 1 ≡ 253
-  -- "level 13 with all bits set gives 32,767": thirteen escapes, then symbol 15
-  pub highest : allSet 13 + 15 % 4 * 2 ^ 13 ≡ 32767
+  -- "level 13 with all bits set gives 32,767": an escape whose two bits are set lengthens both values by one ..
+  pub escape : (s : List ℕ) (level p q r : ℕ) → readBit s p ≡ value 1 q → readBit s q ≡ value 1 r
+      → planeOf s 0 level (allSet level) (allSet level) p ≡ value (record { x = allSet (suc level); y = allSet (suc level) }) r
+  -- .. and behind thirteen of them symbol 15 makes each 32,767
+  pub highest : (s look cum : List ℕ) (lsb base context p : ℕ) (c : Coder) (k : Streams)
+      → lastOf s look cum lsb base 14 0 0 0 c p ≡ value lastSet k
+      → pairOf s look cum lsb base context c p ≡ signedOf s context 32767 32767 lastSet (k .coder) (k .side)
   -- the settings of 24 and 48 kHz
   pub rates : (rateOf 24 ≡ rate.Known at24) × (rateOf 48 ≡ rate.Known at48)
   -- "at 48 kHz field 199 gives line 400"

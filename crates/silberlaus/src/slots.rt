@@ -1,7 +1,7 @@
 // A slot of Annex A.1 under C names: its frame's size, protecting and unprotecting. It stands over `silberlaus_slots`.
 ghost use Rattle.slot_laws.specs.Sizes.{IsFrameSize};
 ghost use Rattle.slot.specs.Protect.{Protects};
-ghost use Rattle.slot.specs.Unprotect.{Unprotects};
+ghost use Rattle.slot.specs.Unprotect.{Recordable, Unprotects};
 use silberlaus_slots::SilberlausUnprotected;
 
 #[no_mangle]
@@ -32,6 +32,7 @@ pub extern "C" fn silberlaus_unprotect(
     frame: &mut [u8],
 ) -> SilberlausUnprotected
     ensures { λ r. ⌜ Unprotects size mode (now (received .entry)) (now (frame .entry)) (now (frame .exit)) (r .number) (r .request) (r .«semi_octets») ⌝ }
+    ensures { λ r. ⌜ Recordable (r .number) (r .request) (r .«semi_octets») (now (frame .exit)) ⌝ }
 {
     silberlaus_slots::unprotect(size, mode, received, frame)
 }

@@ -2,7 +2,7 @@
 // Inner: `silberlaus` stands over it. It asks nothing.
 ghost use mathlib.Core.Path.{_≡_};
 ghost use Rattle.slot.specs.Protect.{Protects};
-ghost use Rattle.slot.specs.Unprotect.{Unprotects};
+ghost use Rattle.slot.specs.Unprotect.{Recordable, Unprotects};
 use slot::Protection;
 use slot::Reception;
 
@@ -37,6 +37,7 @@ fn refused(number: u8) -> SilberlausUnprotected
 
 pub fn unprotect(size: usize, mode: u32, received: &[u8], frame: &mut [u8]) -> SilberlausUnprotected
     ensures { λ r. ⌜ Unprotects size mode (now (received .entry)) (now (frame .entry)) (now (frame .exit)) (r .number) (r .request) (r .«semi_octets») ⌝ }
+    ensures { λ r. ⌜ Recordable (r .number) (r .request) (r .«semi_octets») (now (frame .exit)) ⌝ }
 {
     match slot::unprotect(size, mode, received, frame) {
         Reception::Accepted(q, n) => SilberlausUnprotected {

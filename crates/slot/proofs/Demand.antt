@@ -2,7 +2,7 @@
 use mathlib.Core.Path.{_≡_, refl, sym, ap, _∙_}
 use mathlib.Core.Bool.{Bool, true, false}
 use mathlib.Core.List.{List}
-use Prim.Native.Nat.{ℕ, _*_, _-_, _<_}
+use Prim.Native.Nat.{ℕ, zero, suc, _*_, _-_, _<_}
 use native.Mathlib.Omega.{arith}
 use lib.Dec.{eqb}
 use borrow.Author.Tests.{eqb-true, eq-eqb}
@@ -120,13 +120,24 @@ module _ (size mode q : ℕ) (frame slot old : List ℕ) (taken : Taken size mod
     );
   }
 
+-- whatever the answer, the slot that was lent is a list of bytes
+lent-bytes : (size mode : ℕ) (slot old new : List ℕ) (number r n : ℕ) → InRange size mode → Lengths size mode old slot
+    → Unprotects size mode slot old new number r n → Below 256 slot
+lent-bytes size mode slot old new zero r n i l u = u .taken .bytes
+lent-bytes size mode slot old new (suc zero) r n i l u = absurd (u .unfit i)
+lent-bytes size mode slot old new (suc (suc zero)) r n i l u = absurd (u .unfit l)
+lent-bytes size mode slot old new (suc (suc (suc zero))) r n i l u = u .taken .bytes
+lent-bytes size mode slot old new (suc (suc (suc (suc zero)))) r n i l u = u .taken .bytes
+lent-bytes size mode slot old new (suc (suc (suc (suc (suc m))))) r n i l u = absurd u
+
 -- demand 3: for every slot that protecting made, and every slot of that size that unprotecting is lent with a frame buffer of its length
 pub demand-three : (size mode q : ℕ) (frame lent sent slot old new : List ℕ) (number r n : ℕ)
     → Protects size mode q frame lent sent 0
-    → Lengths size mode old slot → Below 256 slot → Unprotects size mode slot old new number r n
+    → Lengths size mode old slot → Unprotects size mode slot old new number r n
     → DemandThree size mode q frame sent slot new number r n
-demand-three size mode q frame lent sent slot old new number r n p l b u =
-    let t : Taken size mode slot old = record { range = p .settings .range; lengths = l; bytes = b } in
+demand-three size mode q frame lent sent slot old new number r n p l u =
+    let i = p .settings .range in
+    let t : Taken size mode slot old = record { range = i; lengths = l; bytes = lent-bytes size mode slot old new number r n i l u } in
     let s : Sent size mode q frame = record
     { request = p .settings .request; frame-bytes = record { long = p .lengths .frame-long; below = p .bytes } } in
     rw (p .made) (demand size mode q frame slot old t s new number r n u)

@@ -67,13 +67,13 @@ module _ (size mode : ℕ) (slot old new info order : List ℕ) (count : ℕ) (t
       (accepts size mode slot old (slotWith size mode info) taken (corrected-slot size mode slot info count (taken .range) mended) (rw hashes (d .0)))
 
 -- demand 3 follows from the two contracts
-pub carried : (size mode q : ℕ) (frame lent sent slot old new : List ℕ) (p number r n : ℕ) → Protects size mode q frame lent sent p → Below 256 slot
+pub carried : (size mode q : ℕ) (frame lent sent slot old new : List ℕ) (p number r n : ℕ) → Protects size mode q frame lent sent p
     → Unprotects size mode slot old new number r n → Settings size mode q → Lengths size mode frame lent → Lengths size mode old slot
     → DemandThree size mode q frame sent slot new number r n
-carried size mode q frame lent sent slot old new zero number r n p b u s l k = demand-three size mode q frame lent sent slot old new number r n p k b u
-carried size mode q frame lent sent slot old new (suc zero) number r n p b u s l k = absurd (p .unfit s)
-carried size mode q frame lent sent slot old new (suc (suc zero)) number r n p b u s l k = absurd (p .unfit l)
-carried size mode q frame lent sent slot old new (suc (suc (suc m))) number r n p b u s l k = absurd p
+carried size mode q frame lent sent slot old new zero number r n p u s l k = demand-three size mode q frame lent sent slot old new number r n p k u
+carried size mode q frame lent sent slot old new (suc zero) number r n p u s l k = absurd (p .unfit s)
+carried size mode q frame lent sent slot old new (suc (suc zero)) number r n p u s l k = absurd (p .unfit l)
+carried size mode q frame lent sent slot old new (suc (suc (suc m))) number r n p u s l k = absurd p
 
 -- the request as the code reads it
 pub request-is : (size f : ℕ) (order : List ℕ) → f ≡ hash1 size → getD order (2 * f - 1) 0 / 4 ≡ requestIn size order

@@ -2,7 +2,8 @@
 -- Assumes nothing.
 use mathlib.Core.Path.{_≡_}
 use mathlib.Core.List.{List}
-use Prim.Native.Nat.{ℕ, zero, suc}
+use Prim.Native.Nat.{ℕ, zero, suc, _≤_}
+use lib.ListN.{length}
 use Rattle.laws.specs.Tab.{Below}
 use Rattle.slot_laws.specs.Sizes.{InRange}
 use Rattle.slot_laws.specs.Slot.{Sent, slotOf}
@@ -87,6 +88,11 @@ Unprotects size mode slot old new (suc (suc zero)) q n = BadLength size mode slo
 Unprotects size mode slot old new (suc (suc (suc zero))) q n = IsBeyond size mode slot old new q n
 Unprotects size mode slot old new (suc (suc (suc (suc zero)))) q n = IsForeign size mode slot old new q n
 Unprotects size mode slot old new (suc (suc (suc (suc (suc m))))) q n = ⊥
+
+-- what unprotecting accepts a record can hold: the request, a count of at most 54 words x 3, and the shortest and the longest frame
+abbrev pub Recordable : ℕ → ℕ → ℕ → List ℕ → Type 0
+Recordable zero q n new = (q ≤ 3) × (n ≤ 162) × (20 ≤ length new) × (length new ≤ 343)
+Recordable (suc number) q n new = Unit {0}
 
 -- accepted with count 0
 abbrev pub Clean : ℕ → ℕ → Type 0

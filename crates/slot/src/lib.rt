@@ -75,6 +75,7 @@ fn protect_sized(
 // What was received, by document 01's rule, the mode told.
 pub fn unprotect(size: usize, mode: u32, slot: &[u8], frame: &mut [u8]) -> Reception
     ensures { λ r. ⌜ unprotecting.Unprotects size mode (now (slot .entry)) (now (frame .entry)) (now (frame .exit)) (unprotecting.numberOf r) (unprotecting.requestOf r) (unprotecting.countOf r) ⌝ }
+    ensures { λ r. ⌜ unprotecting.Recordable (unprotecting.numberOf r) (unprotecting.requestOf r) (unprotecting.countOf r) (now (frame .exit)) ⌝ }
 {
     match size {
         40..=400 => match mode {

@@ -5,10 +5,11 @@ use mathlib.Core.Bool.{Bool, true, false}
 use Prim.Native.Nat.{ℕ, _+_, _*_, _-_, _/_, _≤_, _<_}
 use native.Mathlib.Omega.{arith}
 use native.Mathlib.Nat.{mul-assoc, mul-comm, mul-le-mul-left, div-lt-iff-lt-mul}
-use lib.Dec.{eqb, ltb, leb}
+use lib.Dec.{eqb, ltb, leb, leb→le}
 use borrow.Author.Tests.{ltb-true, ltb-false, leb-true}
 use Rattle.laws.specs.Tab.{total, pick}
 use Rattle.laws.proofs.Tab.{total-same, total-less, total-back, total-up, total-next, total-none}
+use Rattle.laws.proofs.Every.{both, both-left, both-right, at2}
 use Rattle.laws.proofs.Spread.{share, share-is, share-lt, lt-share, shares}
 use Rattle.code_word_laws.specs.Word.{distance}
 use Rattle.slot_laws.specs.Sizes.{InRange, words, wordLength, dataLength, concealWords, block, conceal, hash1, hash2, frameSize}
@@ -121,6 +122,19 @@ overhead size mode r =
 pub sizes : (size mode : ℕ) → InRange size mode → frameSize size mode + hash1 size + hash2 size mode + words size * (mode - 1) ≡ size
 unfolding frameSize
 sizes size mode r = omega (arith, overhead size mode r)
+
+bounds-test : ℕ → ℕ → Bool
+bounds-test s m = both (leb 20 (frameSize (40 + s) (2 + m))) (leb (frameSize (40 + s) (2 + m)) 343)
+
+-- the shortest and the longest frame
+pub frame-bounds : (size mode : ℕ) → InRange size mode → (20 ≤ frameSize size mode) × (frameSize size mode ≤ 343)
+unfolding frameSize hash1 hash2 words bounds-test
+frame-bounds size mode r =
+    let s : 40 + (size - 40) ≡ size = omega arith in
+    let m : 2 + (mode - 2) ≡ mode = omega arith in
+    let t = rw (s, m) at (at2 361 3 bounds-test tt (size - 40) (mode - 2) (omega arith) (omega arith)) in
+    let f = frameSize size mode in
+    (leb→le 20 f (both-left (leb 20 f) (leb f 343) t), leb→le f 343 (both-right (leb 20 f) (leb f 343) t))
 
 -- the data words hold the hashes and the frame
 pub data-lengths : (size mode : ℕ) → InRange size mode

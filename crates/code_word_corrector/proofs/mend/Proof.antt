@@ -84,9 +84,9 @@ returns-4 c =
     let a = s .before .before .before in
     let p = a .pre in
     let k = m .mend-one .ensures .kept (g .before .if2 .left) in
-    mend-refused (a .args .most) (a .args .word .now) (p .2) (p .3) (p .4) (g .guess .result) (o .result) (s .spectrum .result) (o .last .0) (z .last .0)
+    mend-refused (a .args .most) (a .args .word .now) (p .2) (p .3) (p .4) (g .guess .result) (o .result) (s .spectrum .result) _ (o .last .0) (z .last .0)
     (o .ensures .0 ∙ ap (λ (l : List ℕ). mended l (g .guess .result)) k) (o .ensures .1 ∙ ap (λ (l : List ℕ). apart l (o .last .0)) k) (z .ensures .0)
-    (s .spectrum .ensures) (g .guess .ensures) (d .before .accepted .ensures) (d .if3 .left)
+    (omega arith) (s .spectrum .ensures) (g .guess .ensures) (d .before .accepted .ensures) (d .if3 .left)
 
 pub mend-spec : {M : Type 1} → statement M
 mend-spec =

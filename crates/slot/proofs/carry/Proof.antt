@@ -22,14 +22,13 @@ returns : tie.Need-returns
 returns c =
     let a = c .before .before .before .before .before .before .before .before .before .before .before .before .args in
     let p = c .before .before .before .before .before .before .protect in
-    let u = c .before .before .unprotect in
-    let w = c .before .before .before .before .before .before .before .before .before .shared-slice-known2 in (
+    let u = c .before .before .unprotect in (
       record { number = protectionNumber (p .result); protects = p .ensures },
       (
-        u .ensures,
+        u .ensures .0,
         λ s l k.
             carried (a .size) (a .mode) (a .request) (a .frame .now) (a .sent .now) (p .last .1 .1 .1 .1 .0) (a .slot .now) (a .out .now) (u .last .1 .1 .1 .0)
-            (protectionNumber (p .result)) (numberOf (u .result)) (requestOf (u .result)) (countOf (u .result)) (p .ensures) (λ i. w .given i .fits) (u .ensures) s l k,
+            (protectionNumber (p .result)) (numberOf (u .result)) (requestOf (u .result)) (countOf (u .result)) (p .ensures) (u .ensures .0) s l k,
       ),
     )
 
