@@ -1,5 +1,8 @@
 // What each data semi-octet adds to the check semi-octets of its word, for each mode: specs/Checks.antt of `code_word_laws` says what the entries are.
-ghost use Rattle.code_word_laws.specs.Checks.{IsCheckRows};
+ghost use mathlib.Core.Path.{_≡_};
+ghost use Prim.Native.Nat.{_-_, _≤_};
+ghost use Rattle.code_word_laws.specs.Word.{distance};
+ghost use Rattle.code_word_laws.specs.Checks.{IsCheckRows, checkRows};
 
 // Entry 16 k + c: the two check semi-octets over c alone at data place k, packed.
 const TWO: [u32; 208] = [
@@ -637,9 +640,20 @@ const SIX: [u32; 208] = [
     0x000f00,
 ];
 
-// The table of a mode.
+// The table of a mode; one of zeros for a mode that is none.
 pub fn check_rows(mode: u32) -> [u32; 208]
     ensures { λ r. ⌜ IsCheckRows mode r ⌝ }
+{
+    match mode {
+        2..=4 => rows_of(mode),
+        _ => [0; 208],
+    }
+}
+
+// LLVM lays a match of three tables down as vectors, one of four as a table for each entry: so the zeros stand apart.
+fn rows_of(mode: u32) -> [u32; 208]
+    requires { ⌜ (2 ≤ mode) × (mode ≤ 4) ⌝ }
+    ensures { λ r. ⌜ r ≡ checkRows (distance mode - 1) ⌝ }
 {
     match mode {
         2 => TWO,

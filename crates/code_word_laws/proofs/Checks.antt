@@ -8,21 +8,30 @@ use native.Mathlib.Omega.{arith}
 use native.Mathlib.Nat.{add-zero, mod-eq-of-lt}
 use native.Mathlib.Numerals.{add-one}
 use lib.Bits.{bitXor}
-use lib.ListN.{length, getD, take, drop}
-use lib.Seq.{take-length, drop-cons}
+use lib.ListN.{length, getD, take, drop, take-append-drop, drop-of-length-le}
+use lib.Seq.{take-length, drop-cons, length-take-le}
 use borrow.Author.Tests.{lt-ltb}
-use Rattle.laws.specs.Tab.{pick}
-use Rattle.laws.proofs.Tab.{getD-tab}
+use Rattle.laws.specs.Tab.{tab, pick}
+use Rattle.laws.proofs.Tab.{getD-tab, tab-same}
 use Rattle.gf16.specs.Field.{sum, product, power}
-use Rattle.gf16.proofs.Laws.{ring2, zero-sum, product-sum, product-by-zero}
+use Rattle.gf16.proofs.Laws.{ring2, zero-sum, sum-zero, sum-same, product-sum, product-by-zero}
 use Rattle.code_word_laws.specs.Polynomial.{value, rooted}
-use Rattle.code_word_laws.specs.Word.{SemiOctets}
+use Rattle.code_word_laws.specs.Word.{SemiOctets, apart}
 use Rattle.code_word_laws.specs.Make.{coded}
-use Rattle.code_word_laws.specs.Register.{feedback, register, poured}
-use Rattle.code_word_laws.specs.Checks.{alone, checkRows, withData, summed}
-use Rattle.code_word_laws.proofs.Division.{rooted-root, semi-octet-at}
-use Rattle.code_word_laws.proofs.Register.{held, held-xor, held-nothing, register-held, Leaves, leaves-codes, poured-holds, poured-length}
-use Rattle.code_word_laws.proofs.Coded.{coded-only}
+use Rattle.code_word_laws.specs.Register.{gathered, feedback, register, poured}
+use Rattle.code_word_laws.specs.Checks.{alone, checkOf, checkRows, withData, summed}
+use Rattle.code_word_laws.proofs.Distance.{unique-values}
+use Rattle.code_word_laws.proofs.Division.{rooted-root, semi-octet-at, value-append, valid-roots, take-semi-octets}
+use Rattle.code_word_laws.proofs.Register.{held, held-xor, held-nothing, Empty, register-held, register-empty, register-leaves, Leaves, leaves-codes, poured-value, poured-semi-octets, poured-holds, poured-length, drop-semi-octets}
+use Rattle.code_word_laws.proofs.Coded.{apart-front, coded-is, coded-only}
+
+-- ---- the digits
+
+pub digits-length : (n r : ℕ) → length (poured n r []) ≡ n
+digits-length n r = poured-length n r [] ∙ add-zero n
+
+digits-value : (n r x : ℕ) → value (poured n r []) x ≡ held n r x
+digits-value n r x = poured-value n r [] x tt ∙ ap (λ (v : ℕ). sum (held n r x) v) (product-by-zero (power x n)) ∙ sum-zero (held n r x)
 
 -- ---- one semi-octet alone
 
@@ -31,12 +40,74 @@ unfolding alone
 alone-semi-octets zero c h = (h, tt)
 alone-semi-octets (suc k) c h = (omega arith, alone-semi-octets k c h)
 
-row-at : (n k c : ℕ) → k < 13 → getD (checkRows n) (16 * k + c % 16) 0 ≡ register (feedback n) (alone k (c % 16))
-unfolding checkRows
-row-at n k c h =
+-- a number without digits is 0
+all-empty : (f r : ℕ) → r ≤ f → Empty 0 r → r ≡ 0
+all-empty zero r h e = omega arith
+all-empty (suc f) r h e =
+    let low = e 0 (omega arith) in
+    let high = all-empty f (r / 16) (omega arith) (λ j l. e (suc j) (omega arith)) in
+    omega arith
+
+-- a number's digits, packed again
+poured-back : (n r : ℕ) (info : List ℕ) → Empty n r → gathered 0 (poured n r info) ≡ gathered r info
+unfolding poured gathered
+poured-back zero r info e = ap (λ (a : ℕ). gathered a info) (sym (all-empty r r (omega arith) e))
+poured-back (suc n) r info e =
+    let back : r % 16 + 16 * (r / 16) ≡ r = omega arith in
+    poured-back n (r / 16) (r % 16 ∷ info) (λ j l. e (suc j) (omega arith)) ∙ ap (λ (a : ℕ). gathered a info) back
+
+-- at a root, the check semi-octets have the value of x^n times the data
+check-value : (n j : ℕ) (info : List ℕ) → SemiOctets info → 0 < j → j ≤ n
+    → value (take n (coded (suc n) info)) (power 2 j) ≡ product (power (power 2 j) n) (value info (power 2 j))
+check-value n j info s p h =
+    let x = power 2 j in
+    let w = coded (suc n) info in
+    let c = coded-is (suc n) info s in
+    let same : suc n - 1 ≡ n = omega arith in
+    let holds : drop n w ≡ info = rw same at (c .holds) in
+    let long = length-take-le n w (omega (arith, c .long)) in
+    let split : sum (value (take n w) x) (product (power x n) (value info x)) ≡ 0 =
+    ap₂ (λ (k : ℕ) (l : List ℕ). sum (value (take n w) x) (product (power x k) (value l x))) (sym long) (sym holds)
+    ∙ sym (value-append (take n w) (drop n w) x (drop-semi-octets n w (c .semi-octets)))
+    ∙ ap (λ (l : List ℕ). value l x) (take-append-drop n w)
+    ∙ valid-roots (suc n) w (c .semi-octets) (c .valid) j p (omega arith) in
+    sum-same (value (take n w) x) (product (power x n) (value info x)) split
+
+-- what the register leaves is the check
+pub register-check : (n : ℕ) (info : List ℕ) → n ≤ 15 → SemiOctets info → checkOf n info ≡ register (feedback n) info
+unfolding checkOf gathered
+register-check n info h s =
+    let r = register (feedback n) info in
+    let w = coded (suc n) info in
+    let c = coded-is (suc n) info s in
+    let v = poured n r [] in
+    let long : length v ≡ n = digits-length n r in
+    let short : length (take n w) ≡ n = length-take-le n w (omega (arith, c .long)) in
+    let few : apart (take n w) v ≤ n =
+    apart-front n (take n w) v (drop-of-length-le (take n w) {i = n} (omega arith) ∙ sym (drop-of-length-le v {i = n} (omega arith))) in
+    let same : take n w ≡ v =
+    unique-values (suc n) (take n w) v (short ∙ sym long) (omega arith) (take-semi-octets n w (c .semi-octets)) (poured-semi-octets n r [] tt)
+    (λ j a b. check-value n j info s a (omega arith) ∙ sym (digits-value n r (power 2 j) ∙ register-leaves n info s j a (omega arith)))
+    (omega arith) in
+    ap (gathered 0) same ∙ poured-back n r [] (register-empty n info s)
+
+-- .. so that the table can be computed by it
+unfoldable pub registerRows : ℕ → List ℕ
+registerRows n = tab (λ i. register (feedback n) (alone (i / 16) (i % 16))) 208
+
+pub rows-register : (n : ℕ) → n ≤ 15 → checkRows n ≡ registerRows n
+unfolding checkRows registerRows
+rows-register n h =
+    tab-same (λ i. checkOf n (alone (i / 16) (i % 16))) (λ i. register (feedback n) (alone (i / 16) (i % 16))) 208
+    (λ i l. register-check n (alone (i / 16) (i % 16)) h (alone-semi-octets (i / 16) (i % 16) (omega arith)))
+
+row-at : (n k c : ℕ) → n ≤ 15 → k < 13 → getD (checkRows n) (16 * k + c % 16) 0 ≡ register (feedback n) (alone k (c % 16))
+unfolding registerRows
+row-at n k c l h =
     let q : (16 * k + c % 16) / 16 ≡ k = omega arith in
     let r : (16 * k + c % 16) % 16 ≡ c % 16 = omega arith in
-    getD-tab (λ i. register (feedback n) (alone (i / 16) (i % 16))) 208 (16 * k + c % 16) (omega arith)
+    ap (λ (t : List ℕ). getD t (16 * k + c % 16) 0) (rows-register n l)
+    ∙ getD-tab (λ i. register (feedback n) (alone (i / 16) (i % 16))) 208 (16 * k + c % 16) (omega arith)
     ∙ ap₂ (λ (a b : ℕ). register (feedback n) (alone a b)) q r
 
 more-step : (c x a b : ℕ) → sum c (product x (sum a b)) ≡ sum (sum c (product x a)) (sum 0 (product x b))
@@ -57,32 +128,31 @@ summed-more : (rows : List ℕ) (f : ℕ → ℕ) (m : ℕ) → m < 13 → summe
 unfolding summed withData
 summed-more rows f m h = ap (λ b. pick b (bitXor (summed rows f m) (getD rows (16 * m + f m % 16) 0)) (summed rows f m)) (lt-ltb m 13 h)
 
-summed-held : (n m : ℕ) (info : List ℕ) (x : ℕ) → m ≤ length info → length info ≤ 13 → SemiOctets info → value (rooted (suc n)) x ≡ 0
+summed-held : (n m : ℕ) (info : List ℕ) (x : ℕ) → n < 15 → m ≤ length info → length info ≤ 13 → SemiOctets info → value (rooted (suc n)) x ≡ 0
     → held (suc n) (summed (checkRows (suc n)) (λ k. getD info k 0) m) x ≡ product (power x (suc n)) (value (take m info) x)
 unfolding summed
-summed-held n zero info x h l s z = held-nothing (suc n) x ∙ sym (product-by-zero (power x (suc n)))
-summed-held n (suc m) info x h l s z =
+summed-held n zero info x b h l s z = held-nothing (suc n) x ∙ sym (product-by-zero (power x (suc n)))
+summed-held n (suc m) info x b h l s z =
     let rows = checkRows (suc n) in
     let f : ℕ → ℕ = λ k. getD info k 0 in
     let p = power x (suc n) in
     let c = getD info m 0 in
-    let b : c < 16 = semi-octet-at info m s in
-    let e : c % 16 ≡ c = mod-eq-of-lt b in
+    let e : c % 16 ≡ c = mod-eq-of-lt (semi-octet-at info m s) in
     let one : held (suc n) (getD rows (16 * m + c % 16) 0) x ≡ product p (value (alone m c) x) =
-    ap (λ (v : ℕ). held (suc n) v x) (row-at (suc n) m c (omega arith))
+    ap (λ (v : ℕ). held (suc n) v x) (row-at (suc n) m c (omega arith) (omega arith))
     ∙ register-held n (alone m (c % 16)) x (alone-semi-octets m (c % 16) (omega arith)) z
     ∙ ap (λ (v : ℕ). product p (value (alone m v) x)) e in
     ap (λ (v : ℕ). held (suc n) v x) (summed-more rows f m (omega arith))
     ∙ held-xor (suc n) (summed rows f m) (getD rows (16 * m + c % 16) 0) x
-    ∙ ap₂ sum (summed-held n m info x (omega arith) l s z) one
+    ∙ ap₂ sum (summed-held n m info x b (omega arith) l s z) one
     ∙ sym (product-sum p (value (take m info) x) (value (alone m c) x))
     ∙ ap (product p) (sym (value-more info m x (omega arith)))
 
-summed-leaves : (n : ℕ) (info : List ℕ) → length info ≤ 13 → SemiOctets info
+summed-leaves : (n : ℕ) (info : List ℕ) → n ≤ 15 → length info ≤ 13 → SemiOctets info
     → Leaves n info (summed (checkRows n) (λ k. getD info k 0) (length info))
-summed-leaves zero info l s j p h = absurd (omega arith)
-summed-leaves (suc n) info l s j p h =
-    summed-held n (length info) info (power 2 j) (omega arith) l s (rooted-root (suc n) j p h)
+summed-leaves zero info b l s j p h = absurd (omega arith)
+summed-leaves (suc n) info b l s j p h =
+    summed-held n (length info) info (power 2 j) (omega arith) (omega arith) l s (rooted-root (suc n) j p h)
     ∙ ap (λ (w : List ℕ). product (power (power 2 j) (suc n)) (value w (power 2 j))) (take-length info)
 
 -- the digits of the sum, in front of the data, are the code word over them
@@ -91,7 +161,7 @@ pub summed-coded : (d : ℕ) (info : List ℕ) → 3 ≤ d → d - 1 + length in
 summed-coded d info a l s =
     let r = summed (checkRows (d - 1)) (λ k. getD info k 0) (length info) in
     coded-only d info (poured (d - 1) r info) (omega arith) l s
-    (leaves-codes d r info (omega arith) (omega arith) s (summed-leaves (d - 1) info (omega arith) s))
+    (leaves-codes d r info (omega arith) (omega arith) s (summed-leaves (d - 1) info (omega arith) (omega arith) s))
 
 -- ---- the sum as a loop makes it
 
@@ -104,9 +174,6 @@ unfolding summed
 summed-next rows f k c r s e h t = t ∙ ap₂ (withData rows k) e h ∙ ap (summed rows f) (sym (add-one k))
 
 -- ---- the digits one by one
-
-pub digits-length : (n r : ℕ) → length (poured n r []) ≡ n
-digits-length n r = poured-length n r [] ∙ add-zero n
 
 pub digits-start : (n r : ℕ) → poured n r (drop n (poured n r [])) ≡ poured n r []
 digits-start n r = ap (λ (l : List ℕ). poured n r l) (poured-holds n r [])

@@ -140,10 +140,10 @@ value-sums (a ∷ xs) [] x e = absurd (omega arith)
 value-sums (a ∷ xs) (b ∷ ys) x e =
     ap (λ (v : ℕ). sum (sum a b) (product x v)) (value-sums xs ys x (omega arith)) ∙ shared a b (value xs x) (value ys x) x
 
--- the distance argument, for words given by their roots
-pub unique-roots : (d : ℕ) (xs ys : List ℕ) → length xs ≡ length ys → length xs ≤ 15 → SemiOctets xs → SemiOctets ys
-    → Roots d xs → Roots d ys → apart xs ys < d → xs ≡ ys
-unique-roots d xs ys e l s t p q h =
+-- the distance argument, for words of the same values at 2^1 .. 2^(d-1)
+pub unique-values : (d : ℕ) (xs ys : List ℕ) → length xs ≡ length ys → length xs ≤ 15 → SemiOctets xs → SemiOctets ys
+    → ((j : ℕ) → 0 < j → j < d → value xs (power 2 j) ≡ value ys (power 2 j)) → apart xs ys < d → xs ≡ ys
+unique-values d xs ys e l s t p h =
     let few = support-few xs ys 0 in
     let semi = sums-semi-octets xs ys s t in
     same xs ys e
@@ -152,8 +152,13 @@ unique-roots d xs ys e l s t p q h =
     (λ j a b.
     sym (value-total (sums xs ys) j semi)
     ∙ value-sums xs ys (power 2 j) e
-    ∙ ap₂ sum (p j a (omega arith)) (q j a (omega arith))
-    ∙ sum-zero 0)))
+    ∙ ap (λ (v : ℕ). sum v (value ys (power 2 j))) (p j a (omega arith))
+    ∙ sum-self (value ys (power 2 j)))))
+
+-- .. for words given by their roots
+pub unique-roots : (d : ℕ) (xs ys : List ℕ) → length xs ≡ length ys → length xs ≤ 15 → SemiOctets xs → SemiOctets ys
+    → Roots d xs → Roots d ys → apart xs ys < d → xs ≡ ys
+unique-roots d xs ys e l s t p q h = unique-values d xs ys e l s t (λ j a b. p j a b ∙ sym (q j a b)) h
 
 -- two words near a third are near each other
 pub triangle : (rs xs ys : List ℕ) → length rs ≡ length xs → length rs ≡ length ys → apart xs ys ≤ apart rs xs + apart rs ys

@@ -226,7 +226,7 @@ register-held n (c ∷ cs) x s z =
 pour-step : (v p a x w : ℕ) → sum v (product p (sum a (product x w))) ≡ sum (sum (product a p) v) (product (product x p) w)
 pour-step v p a x w = simp ring
 
-poured-value : (n r : ℕ) (info : List ℕ) (x : ℕ) → SemiOctets info
+pub poured-value : (n r : ℕ) (info : List ℕ) (x : ℕ) → SemiOctets info
     → value (poured n r info) x ≡ sum (held n r x) (product (power x n) (value info x))
 unfolding poured power
 poured-value zero r info x s = sym (zero-sum (product 1 (value info x)) ∙ one-product (value info x) ∙ mod-eq-of-lt (value-lt info x s))
@@ -274,7 +274,7 @@ leaves-codes d r info a b s l =
       valid = roots-valid d (poured n r info) a b t (λ j p h. poured-root n r info s l j p (omega arith));
     }
 
-register-leaves : (n : ℕ) (info : List ℕ) → SemiOctets info → Leaves n info (register (feedback n) info)
+pub register-leaves : (n : ℕ) (info : List ℕ) → SemiOctets info → Leaves n info (register (feedback n) info)
 register-leaves zero info s j p h = absurd (omega arith)
 register-leaves (suc n) info s j p h = register-held n info (power 2 j) s (rooted-root (suc n) j p h)
 
