@@ -5,6 +5,7 @@ use crate::ffi;
 
 /// The fields of a frame, by the clause's names; spectrum and residual bits are in the lent slices.
 #[derive(Clone, Copy, Debug, PartialEq, Eq, Hash)]
+#[non_exhaustive]
 pub struct Frame {
     /// The bandwidth, at most the rate's index.
     pub bandwidth: u8,
@@ -30,6 +31,7 @@ pub struct Frame {
 
 /// A temporal noise shaping filter.
 #[derive(Clone, Copy, Debug, PartialEq, Eq, Hash)]
+#[non_exhaustive]
 pub struct Tns {
     /// Whether the filter was sent.
     pub flag: bool,
@@ -41,6 +43,7 @@ pub struct Tns {
 
 /// The spectral shape: 38 bits.
 #[derive(Clone, Copy, Debug, PartialEq, Eq, Hash)]
+#[non_exhaustive]
 pub struct Shape {
     /// The first five bits sent.
     pub low: u8,
@@ -58,6 +61,7 @@ pub struct Shape {
 
 /// The pitch of the long term postfilter.
 #[derive(Clone, Copy, Debug, PartialEq, Eq, Hash)]
+#[non_exhaustive]
 pub struct Pitch {
     /// Whether the filter is active.
     pub filter_flag: bool,

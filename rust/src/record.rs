@@ -23,6 +23,7 @@ use crate::{Frame, Refusal};
 
 /// An entry's fields, and where its frame stands in the record.
 #[derive(Clone, Copy, Debug, PartialEq, Eq, Hash)]
+#[non_exhaustive]
 pub struct Entry {
     /// The request that came with the frame, 0 to 3.
     pub request: u8,

@@ -14,6 +14,7 @@ use core::fmt;
 /// assert_eq!(refusal.to_string(), "1: a setting is out of range");
 /// ```
 #[derive(Clone, Copy, Debug, PartialEq, Eq, Hash)]
+#[non_exhaustive]
 pub enum Refusal {
     /// 1: a setting is out of range; for the record also its used length, its entry or a place.
     BadSetting,
@@ -41,6 +42,7 @@ pub enum Refusal {
 /// ```
 #[derive(Clone, Copy, Debug, PartialEq, Eq, Hash)]
 #[repr(u8)]
+#[non_exhaustive]
 pub enum Cause {
     /// The bandwidth is above the rate's.
     Bandwidth = 1,
@@ -129,8 +131,8 @@ impl fmt::Display for Cause {
             Cause::JointIndex => "the joint index is too large",
             Cause::Arithmetic => "the arithmetic value is outside its range",
             Cause::Escapes => "fourteen escapes in a pair",
-            Cause::Crossed => "the two streams cross",
-            Cause::NoBits => "no bits are left for the residual",
+            Cause::Crossed => "the two streams cross, or a byte outside the frame is wanted",
+            Cause::NoBits => "fewer than no bits are left for the residual",
         })
     }
 }

@@ -5,6 +5,7 @@ use crate::ffi;
 
 /// What unprotecting found beside the frame.
 #[derive(Clone, Copy, Debug, PartialEq, Eq, Hash)]
+#[non_exhaustive]
 pub struct Unprotected {
     /// The request, as sent.
     pub request: u8,

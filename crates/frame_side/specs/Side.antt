@@ -23,7 +23,7 @@ use Rattle.frame_side.specs.declared.TailRead.the-variants as tail
 use Rattle.frame_side.specs.declared.SideRead.{SideRead}
 use Rattle.frame_side.specs.declared.SideRead.the-variants as side
 
--- bandwidth ("cause 1: bandwidth above index"), last pair ("last line = 2 x (field + 1)", "cause 2: last line above NE"), LSB mode, global gain
+-- bandwidth (cause 1: bandwidth above index), last pair (last line = 2 x (field + 1), cause 2: last line above NE), LSB mode, global gain
 unfoldable pub headOf : List ℕ → Setting → Read ℕ Head
 headOf s r =
     andThen (readBits s 0 (r .bandwidth)) (λ b p. cond (ltb (r .index) b) (cause 1)

@@ -12,12 +12,12 @@ use Rattle.frame_tns.specs.declared.FilterRead.the-variants as filter
 use Rattle.frame_tns.specs.declared.CoefficientsRead.{CoefficientsRead}
 use Rattle.frame_tns.specs.declared.CoefficientsRead.the-variants as coefficients
 
--- a filter: its order and eight coefficients, "0 from the order on"
+-- a filter: its order and eight coefficients, 0 from the order on
 pub record Filter : Type 0 where
   pub order : ℕ
   pub coefficients : List ℕ
 
--- "order and coefficients of a filter whose flag is 0" are 0
+-- order and coefficients of a filter whose flag is 0 are 0
 abbrev pub unused : List ℕ
 unused = 0 ∷ 0 ∷ 0 ∷ 0 ∷ 0 ∷ 0 ∷ 0 ∷ 0 ∷ []
 
@@ -27,7 +27,7 @@ coefficientsOf s rows zero k l c = value l c
 coefficientsOf s rows (suc n) k l c =
     andThen (symbolOf s rows (k * 18) 16 c) (λ v c. coefficientsOf s rows n (suc k) (set l k v) c)
 
--- a filter that is sent: "the order is 1 + a symbol (0 .. 7)" of row w of the orders
+-- a filter that is sent: the order is 1 + a symbol (0 .. 7) of row w of the orders
 unfoldable pub sentOf : List ℕ → List ℕ → List ℕ → ℕ → Coder → Read Coder Filter
 sentOf s orders rows w c =
     andThen (symbolOf s orders (w * 9) 7 c) (λ v c.

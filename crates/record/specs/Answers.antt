@@ -1,5 +1,5 @@
 -- What each function answers: document 01's number with the values beside it, for each case of its answer and for all input.
--- "A refusal returns its number, zero in every other field, and no lent byte is changed." Assumes nothing.
+-- A refusal returns its number, zero in every other field, and no lent byte is changed. Assumes nothing.
 use mathlib.Core.Bool.{Bool, _&&_, cond}
 use mathlib.Core.Option.{Option, none, some}
 use mathlib.Core.List.{List, [], _∷_, _++_}
@@ -112,7 +112,7 @@ addOf (some es) buffer used e = cond (hasRoom buffer used e) (accepted (used + l
 unfoldable pub addAnswer : List ℕ → ℕ → RecordEntry → ℕ → Answer
 addAnswer buffer used e size = cond (mayAdd buffer used e size) (addOf (readRecord (take used buffer)) buffer used e) (refused 1)
 
--- accepted, the record of the old entries and one more, and the "bytes past the new end stay"
+-- accepted, the record of the old entries and one more, and the bytes past the new end stay
 abbrev pub storedOf : Option (List RecordEntry) → List ℕ → ℕ → RecordEntry → List ℕ
 storedOf none buffer used e = buffer
 storedOf (some es) buffer used e =

@@ -22,7 +22,7 @@ entryEnding s end size =
 unfoldable pub mayEnd : List ℕ → ℕ → ℕ → Bool
 mayEnd s end size = leb (size + 4) end && inRange (getD s (end - 4) 0) (getD s (end - 3) 0) size
 
--- the entry that ends before `end`, "its length pointing to its start"
+-- the entry that ends before `end`, its length pointing to its start
 unfoldable pub entryBefore : List ℕ → ℕ → Option RecordEntry
 entryBefore s end = cond (mayEnd s end (number s (end - 2) 2)) (some (entryEnding s end (number s (end - 2) 2))) none
 

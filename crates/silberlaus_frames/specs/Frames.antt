@@ -39,12 +39,12 @@ frameGiven r = given (r .number) (r .cause)
     })
     (r .«tns_coefficients_0») (r .«tns_coefficients_1»)
 
--- "the record 7, the place 1, then the frame's 5"
+-- the record 7, the place 1, then the frame's 5
 abbrev pub judgedPlace : Setting → Option (List RecordEntry) → ℕ → Judged
 judgedPlace r none place = refused 7 0
 judgedPlace r (some es) place = cond (ltb place (length es)) (judgedRead (frameOf (frameAt es place) r)) (refused 1 0)
 
--- "the rate 1, the two buffers 2"
+-- the rate 1, the two buffers 2
 abbrev pub judgedIn : Rate → List ℕ → ℕ → ℕ → ℕ → Judged
 judgedIn rate.Unknown s place x b = refused 1 0
 judgedIn (rate.Known r) s place x b = cond (eqb x (r .lines) && eqb b (r .lines)) (judgedPlace r (readRecord s) place) (refused 2 0)

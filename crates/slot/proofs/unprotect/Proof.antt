@@ -17,7 +17,7 @@ returns c =
     let a = c .before .before .before .before .before .before .before .before .before .before .args in (
       u .ensures,
       recordable (a .size) (a .mode) (a .slot .now) (a .frame .now) (u .last .1 .1 .1 .0)
-      (numberOf (u .result)) (requestOf (u .result)) (countOf (u .result)) (u .ensures),
+          (numberOf (u .result)) (requestOf (u .result)) (countOf (u .result)) (u .ensures),
     )
 
 returns-2 : tie.Need-returns-2
