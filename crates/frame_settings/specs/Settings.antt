@@ -1,7 +1,7 @@
 -- The settings of a 10 ms frame (document 01, "Reading a frame"): what the rate gives, and how long a frame may be. Assumes nothing.
 use mathlib.Core.Path.{_≡_}
 use mathlib.Core.Bool.{Bool, cond}
-use mathlib.Core.List.{List}
+use mathlib.Core.List.{List, [], _∷_}
 use Prim.Native.Nat.{ℕ, _+_, _*_, _/_, _≤_}
 use lib.Dec.{ltb, eqb}
 use lib.ListN.{length}
@@ -13,14 +13,26 @@ abbrev pub setting : ℕ → ℕ → ℕ → ℕ → Rate
 setting index lines bandwidth pair =
     rate.Known (record { index = index; lines = lines; bandwidth = bandwidth; pair = pair })
 
--- the table of document 01: the rate's index, the line count NE, the bits of the bandwidth and of the last pair
+-- a row of the table of document 01: a rate, and its setting
+pub record RateRow : Type 0 where
+  pub khz : ℕ
+  pub given : Setting
+
+-- kHz, the rate's index, the line count NE, the bits of the bandwidth and of the last pair
+abbrev pub row : ℕ → ℕ → ℕ → ℕ → ℕ → RateRow
+row khz index lines bandwidth pair =
+    record { khz = khz; given = record { index = index; lines = lines; bandwidth = bandwidth; pair = pair } }
+
+abbrev pub rates : List RateRow
+rates = row 8 0 80 0 6 ∷ row 16 1 160 1 7 ∷ row 24 2 240 2 7 ∷ row 32 3 320 2 8 ∷ row 48 4 400 3 8 ∷ []
+
+-- the setting of a rate in such a table
+abbrev pub settingIn : List RateRow → ℕ → Rate
+settingIn [] khz = rate.Unknown
+settingIn (x ∷ xs) khz = cond (eqb khz (x .khz)) (rate.Known (x .given)) (settingIn xs khz)
+
 unfoldable pub rateOf : ℕ → Rate
-rateOf khz =
-    cond (eqb khz 8) (setting 0 80 0 6)
-    (cond (eqb khz 16) (setting 1 160 1 7)
-    (cond (eqb khz 24) (setting 2 240 2 7)
-    (cond (eqb khz 32) (setting 3 320 2 8)
-    (cond (eqb khz 48) (setting 4 400 3 8) rate.Unknown))))
+rateOf khz = settingIn rates khz
 
 -- NE; 0 where the rate is out of range
 abbrev pub linesAt : Rate → ℕ

@@ -10,7 +10,8 @@ use lib.Dec.{leb, ltb, eqb}
 use lib.ListN.{length}
 use lib.IntN.{ℤ}
 use borrow.Author.Tests.{le-leb, ltb-true, ltb-false, eq-eqb, ne-eqb}
-use Rattle.frame_settings.specs.Settings.{setting, rateOf, linesAt, lineCount}
+use Rattle.frame_settings.specs.Settings.{rateOf, linesAt, lineCount}
+use Rattle.frame_settings.proofs.Rates.{rate-unknown}
 use Rattle.frame.specs.Frame.{Judged, refused, judgedRead, judgedAt, judgedOf, frameOf, Given, answered, told, givenOf, refusedWith, spectrumOf, residualAfter}
 use Rattle.frame.specs.Sound as sound
 use Rattle.frame_settings.specs.declared.Setting.{Setting}
@@ -70,25 +71,6 @@ reading j k r o lines lines′ bits bits′ e g t x y b =
     rw (← e) (g ∙ t, (x, (y, bounded (r .answer) (r .«tns_coefficients_0») (r .«tns_coefficients_1») o lines′ g b)))
 
 -- ---- the rate and the two buffers
-
--- the setting that five tests choose
-abbrev chosen : Bool → Bool → Bool → Bool → Bool → Rate
-chosen a b c d e =
-    cond a (setting 0 80 0 6) (cond b (setting 1 160 1 7) (cond c (setting 2 240 2 7) (cond d (setting 3 320 2 8) (cond e (setting 4 400 3 8) rate.Unknown))))
-
-no-lines : (a b c d e : Bool)
-    → linesAt (chosen a b c d e) ≡ 0 → chosen a b c d e ≡ rate.Unknown
-no-lines true b c d e z = absurd (omega arith)
-no-lines false true c d e z = absurd (omega arith)
-no-lines false false true d e z = absurd (omega arith)
-no-lines false false false true e z = absurd (omega arith)
-no-lines false false false false true z = absurd (omega arith)
-no-lines false false false false false z = refl
-
--- NE is 0 only where the rate is out of range
-rate-unknown : (khz : ℕ) → linesAt (rateOf khz) ≡ 0 → rateOf khz ≡ rate.Unknown
-unfolding rateOf
-rate-unknown khz z = no-lines (eqb khz 8) (eqb khz 16) (eqb khz 24) (eqb khz 32) (eqb khz 48) z
 
 other-spectrum-in : (o : Rate) (s : List ℕ) (place x b : ℕ) → (linesAt o ≡ 0 → ⊥) → (x ≡ linesAt o → ⊥) → judgedIn o s place x b ≡ refused 2 0
 other-spectrum-in rate.Unknown s place x b h k = absurd (h refl)

@@ -2,7 +2,7 @@
 use Prim.Native.Nat.{ℕ, _≤_}
 use mathlib.Core.Path.{subst⁻¹}
 use borrow.Author.Needs.{needs}
-use Rattle.day_way.proofs.Rates.{lines-most}
+use Rattle.frame_settings.proofs.Rates.{lines-most}
 use Rattle.day_way.proofs.lines_at.Statement.{statement}
 use Rattle.day_way.proofs.lines_at.Tie as tie
 

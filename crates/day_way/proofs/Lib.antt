@@ -1,2 +1,0 @@
--- The lines of a frame at any rate.
-pub mod Rates
