@@ -139,7 +139,7 @@ impl Tally {
     }
 
     // Something was refused under a number of document 01.
-    pub fn refuse(mut self, number: u32) -> Self {
+    pub fn refuse(mut self, number: u8) -> Self {
         match number {
             1 => self.refused_1 = more(self.refused_1, 1),
             2 => self.refused_2 = more(self.refused_2, 1),

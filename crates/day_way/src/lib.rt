@@ -80,7 +80,7 @@ fn receive(
     let changes = air::changes_at(trip.place, trip.size, trip.mode);
     let got = carry(trip, request, changes, frame, slot, out);
     let Reception::Accepted(found, count) = got else {
-        return t.refuse(number_of(got));
+        return t.refuse(got.number());
     };
     let compared = t.accept(count as usize).compare(
         same(out, frame),
@@ -107,17 +107,6 @@ fn carry(
     }
     air::change(slot, changes, trip.place);
     slot::unprotect(trip.size, trip.mode, slot, out)
-}
-
-// Document 01's number of what unprotecting answers.
-fn number_of(r: Reception) -> u32 {
-    match r {
-        Reception::Accepted(_, _) => 0,
-        Reception::Setting => 1,
-        Reception::Length => 2,
-        Reception::Beyond => 3,
-        Reception::Foreign => 4,
-    }
 }
 
 fn same(a: &[u8], b: &[u8]) -> bool {
@@ -152,9 +141,7 @@ fn keep(khz: u32, frame: &[u8], request: u8, count: u16, buffer: &mut [u8], t: T
     let answer = reading.answer;
     match answer {
         Answer::Read(fields) => store(frame, request, count, buffer, counted(fields, t)),
-        Answer::Setting => t.refuse(1),
-        Answer::Length => t.refuse(2),
-        Answer::BitError(_) => t.refuse(5),
+        _ => t.refuse(answer.number()),
     }
 }
 
@@ -179,8 +166,6 @@ fn store(frame: &[u8], request: u8, count: u16, buffer: &mut [u8], t: Tally) -> 
     );
     match added {
         Added::Used(used) => t.store(used as usize),
-        Added::BadSetting => t.refuse(1),
-        Added::NoRoom => t.refuse(6),
-        Added::NotRecord => t.refuse(7),
+        _ => t.refuse(added.number()),
     }
 }

@@ -7,7 +7,7 @@ ghost use Prim.Native.Nat.{_/_};
 ghost use lib.ListN.{length};
 ghost use Rattle.frame_settings.specs.Settings.{Known, Sized};
 ghost use Rattle.frame_tns.specs.Tns.{unused};
-ghost use Rattle.frame.specs.Frame.{judgedOf, judgedSized, judgedRead, arithmeticFrom, givenOf, spectrumOf, residualAfter, told};
+ghost use Rattle.frame.specs.Frame.{answered, judgedOf, judgedSized, judgedRead, arithmeticFrom, givenOf, spectrumOf, residualAfter, told};
 ghost use Rattle.frame_side.specs.Sound.{Sided};
 ghost use Rattle.frame.specs.Sound.{Bounded};
 use frame_settings::Rate;
@@ -39,6 +39,20 @@ pub enum Answer {
     Setting,
     Length,
     BitError(u8),
+}
+
+impl Answer {
+    // Document 01's number.
+    pub fn number(self) -> u8
+        ensures { λ r. ⌜ r ≡ answered self unused unused .number ⌝ }
+    {
+        match self {
+            Answer::Read(_) => 0,
+            Answer::Setting => 1,
+            Answer::Length => 2,
+            Answer::BitError(_) => 5,
+        }
+    }
 }
 
 // The answer, and beside it each filter's coefficients: 0 from its order on, and all 0 on a refusal.

@@ -22,10 +22,34 @@ pub enum Made {
     NoRoom,
 }
 
+impl Made {
+    // Document 01's number.
+    pub fn number(self) -> u8
+        ensures { λ r. ⌜ r ≡ madeNumber self ⌝ }
+    {
+        match self {
+            Made::Empty => 0,
+            Made::NoRoom => 6,
+        }
+    }
+}
+
 // What asking for the number of entries answers.
 pub enum Counted {
     Entries(u32),
     NotRecord,
+}
+
+impl Counted {
+    // Document 01's number.
+    pub fn number(self) -> u8
+        ensures { λ r. ⌜ r ≡ countedAnswer self .number ⌝ }
+    {
+        match self {
+            Counted::Entries(_) => 0,
+            Counted::NotRecord => 7,
+        }
+    }
 }
 
 // What asking for an entry answers.
@@ -35,12 +59,39 @@ pub enum Found {
     NoPlace,
 }
 
+impl Found {
+    // Document 01's number.
+    pub fn number(self) -> u8
+        ensures { λ r. ⌜ r ≡ foundAnswer self .number ⌝ }
+    {
+        match self {
+            Found::At(_) => 0,
+            Found::NotRecord => 7,
+            Found::NoPlace => 1,
+        }
+    }
+}
+
 // What adding an entry answers: the new used length, or a refusal.
 pub enum Added {
     Used(u32),
     BadSetting,
     NotRecord,
     NoRoom,
+}
+
+impl Added {
+    // Document 01's number.
+    pub fn number(self) -> u8
+        ensures { λ r. ⌜ r ≡ addedAnswer self .number ⌝ }
+    {
+        match self {
+            Added::Used(_) => 0,
+            Added::BadSetting => 1,
+            Added::NotRecord => 7,
+            Added::NoRoom => 6,
+        }
+    }
 }
 
 // Writes a record of no entries at the start of the buffer.

@@ -13,7 +13,6 @@ use frame::Reading;
 use frame::Shape;
 use frame::Side;
 use frame::Tail;
-use record::Found;
 
 // C's silberlaus_frame.
 #[repr(C)]
@@ -158,12 +157,7 @@ pub fn read_frame(
 fn why_missing(bytes: &[u8], place: usize) -> u8
     ensures { λ r. ⌜ r ≡ missing (now (bytes .entry)) place ⌝ }
 {
-    let found = record::entry(bytes, place);
-    match found {
-        Found::NotRecord => 7,
-        Found::NoPlace => 1,
-        Found::At(_) => 0,
-    }
+    record::entry(bytes, place).number()
 }
 
 // The frame of the entry at a place, a part of the record that goes on to the frame reader uncopied.

@@ -7,7 +7,6 @@ ghost use Rattle.silberlaus_records.specs.Records.{answer, entryGiven, a
 use record::Added;
 use record::Counted;
 use record::Found;
-use record::Made;
 
 // C's silberlaus_entries.
 #[repr(C)]
@@ -37,11 +36,7 @@ pub fn new(buffer: &mut [u8]) -> u8
     ensures { λ r. ⌜ r ≡ newNumber (now (buffer .entry)) ⌝ }
     ensures { λ r. ⌜ now (buffer .exit) ≡ newBuffer (now (buffer .entry)) ⌝ }
 {
-    let made = record::new(buffer);
-    match made {
-        Made::Empty => 0,
-        Made::NoRoom => 6,
-    }
+    record::new(buffer).number()
 }
 
 pub fn entries(bytes: &[u8]) -> SilberlausEntries

@@ -3,7 +3,6 @@
 ghost use mathlib.Core.Path.{_≡_};
 ghost use Rattle.slot.specs.Protect.{Protects};
 ghost use Rattle.slot.specs.Unprotect.{Recordable, Unprotects};
-use slot::Protection;
 use slot::Reception;
 
 // C's silberlaus_unprotected.
@@ -17,11 +16,7 @@ pub struct SilberlausUnprotected {
 pub fn protect(size: usize, mode: u32, request: u32, frame: &[u8], sent: &mut [u8]) -> u8
     ensures { λ r. ⌜ Protects size mode request (now (frame .entry)) (now (sent .entry)) (now (sent .exit)) r ⌝ }
 {
-    match slot::protect(size, mode, request, frame, sent) {
-        Protection::Protected => 0,
-        Protection::Setting => 1,
-        Protection::Length => 2,
-    }
+    slot::protect(size, mode, request, frame, sent).number()
 }
 
 // A refusal: its number, and zero in every other field.

@@ -21,6 +21,19 @@ pub enum Protection {
     Length,
 }
 
+impl Protection {
+    // Document 01's number.
+    pub fn number(self) -> u8
+        ensures { λ r. ⌜ r ≡ protecting.numberOf self ⌝ }
+    {
+        match self {
+            Protection::Protected => 0,
+            Protection::Setting => 1,
+            Protection::Length => 2,
+        }
+    }
+}
+
 // What unprotecting found: the request and the count of changed semi-octets, or document 01's refusal 1, 2, 3 or 4.
 pub enum Reception {
     Accepted(u8, u16),
@@ -28,6 +41,21 @@ pub enum Reception {
     Length,
     Beyond,
     Foreign,
+}
+
+impl Reception {
+    // Document 01's number.
+    pub fn number(self) -> u8
+        ensures { λ r. ⌜ r ≡ unprotecting.numberOf self ⌝ }
+    {
+        match self {
+            Reception::Accepted(_, _) => 0,
+            Reception::Setting => 1,
+            Reception::Length => 2,
+            Reception::Beyond => 3,
+            Reception::Foreign => 4,
+        }
+    }
 }
 
 // Annex A's slot of a frame and a request.

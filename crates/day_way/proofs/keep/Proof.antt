@@ -32,23 +32,11 @@ counted-requires c κs = search needs
 store-requires : tie.Need-store-requires
 store-requires c κs = search needs
 
-enum-told : tie.Need-enum-told
-enum-told c = search needs
+number-requires : tie.Need-number-requires
+number-requires c κs = search needs
 
 refuse-requires : tie.Need-refuse-requires
 refuse-requires c κs = search needs
-
-enum-told-2 : tie.Need-enum-told-2
-enum-told-2 c = search needs
-
-refuse-requires-2 : tie.Need-refuse-requires-2
-refuse-requires-2 c κs = search needs
-
-enum-told-3 : tie.Need-enum-told-3
-enum-told-3 c = search needs
-
-refuse-requires-3 : tie.Need-refuse-requires-3
-refuse-requires-3 c κs = search needs
 
 same-length : tie.Need-same-length
 same-length c = search needs
@@ -58,12 +46,6 @@ returns c = search needs
 
 returns-2 : tie.Need-returns-2
 returns-2 c = search needs
-
-returns-3 : tie.Need-returns-3
-returns-3 c = search needs
-
-returns-4 : tie.Need-returns-4
-returns-4 c = search needs
 
 pub keep-spec : {M : Type 1} → statement M
 keep-spec =
@@ -78,14 +60,8 @@ keep-spec =
     enum-known-answer
     counted-requires
     store-requires
-    enum-told
+    number-requires
     refuse-requires
-    enum-told-2
-    refuse-requires-2
-    enum-told-3
-    refuse-requires-3
     same-length
     returns
-    returns-2
-    returns-3
-    returns-4)
+    returns-2)

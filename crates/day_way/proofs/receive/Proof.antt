@@ -16,8 +16,8 @@ carry-requires c κs = search needs
 enum-known-got : tie.Need-enum-known-got
 enum-known-got c = search needs
 
-number-of-requires : tie.Need-number-of-requires
-number-of-requires c κs = search needs
+number-requires : tie.Need-number-requires
+number-requires c κs = search needs
 
 refuse-requires : tie.Need-refuse-requires
 refuse-requires c κs = search needs
@@ -76,7 +76,7 @@ receive-spec =
     changes-at-requires
     carry-requires
     enum-known-got
-    number-of-requires
+    number-requires
     refuse-requires
     same-length
     same-length-2

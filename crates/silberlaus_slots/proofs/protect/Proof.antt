@@ -1,4 +1,4 @@
--- `silberlaus_slots::protect` meets its contract, case by case. Assumes nothing.
+-- `silberlaus_slots::protect` meets its contract: that of `slot::protect`, with the number in place of the enum. Assumes nothing.
 use borrow.Author.Needs.{needs}
 use Rattle.silberlaus_slots.proofs.protect.Statement.{statement}
 use Rattle.silberlaus_slots.proofs.protect.Tie as tie
@@ -6,44 +6,14 @@ use Rattle.silberlaus_slots.proofs.protect.Tie as tie
 protect-requires : tie.Need-protect-requires
 protect-requires c κs = search needs
 
-enum-told : tie.Need-enum-told
-enum-told c = search needs
-
-enum-told-2 : tie.Need-enum-told-2
-enum-told-2 c = search needs
-
-enum-told-3 : tie.Need-enum-told-3
-enum-told-3 c = search needs
+number-requires : tie.Need-number-requires
+number-requires c κs = search needs
 
 same-length : tie.Need-same-length
 same-length c = search needs
 
 returns : tie.Need-returns
-returns c = rw (c .enum-told .given .1) at (c .before .before .before .before .protect .ensures)
-
-same-length-2 : tie.Need-same-length-2
-same-length-2 c = search needs
-
-returns-2 : tie.Need-returns-2
-returns-2 c = rw (c .enum-told2 .given .1) at (c .before .before .before .before .protect .ensures)
-
-same-length-3 : tie.Need-same-length-3
-same-length-3 c = search needs
-
-returns-3 : tie.Need-returns-3
-returns-3 c = rw (c .enum-told3 .given .1) at (c .before .before .before .before .protect .ensures)
+returns c = rw (c .number .ensures) (c .before .before .before .protect .ensures)
 
 pub protect-spec : {M : Type 1} → statement M
-protect-spec =
-    tie.close
-    (tie.spec
-    protect-requires
-    enum-told
-    enum-told-2
-    enum-told-3
-    same-length
-    returns
-    same-length-2
-    returns-2
-    same-length-3
-    returns-3)
+protect-spec = tie.close (tie.spec protect-requires number-requires same-length returns)
