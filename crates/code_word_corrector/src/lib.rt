@@ -3,17 +3,14 @@
 // valid.
 // Inner: `code_word` stands over it. It asks for the locator's table, for t from 1 to 3 and for words of at most 15 semi-octets.
 ghost use mathlib.Core.Path.{_≡_};
-ghost use mathlib.Core.Logic.{_≢_};
 ghost use Prim.Native.Nat.{_+_, _^_, _≤_, _<_};
 ghost use lib.Dec.{ltb};
 ghost use lib.ListN.{length};
 ghost use Rattle.laws.specs.Decides.{Decides};
 ghost use Rattle.laws.specs.Tab.{pick};
-ghost use Rattle.gf16.specs.Field.{product, power, inverse};
 ghost use Rattle.code_word_laws.specs.Word.{SemiOctets, apart};
 ghost use Rattle.code_word_laws.specs.Correct.{Mended, EachMended};
-ghost use Rattle.code_word_laws.specs.Packed.{nibble};
-ghost use Rattle.code_word_laws.specs.Corrector.{Table, Row, Spectrum, Clear, Flat, Thin, Rules, Transformed, Guessed, Acceptable, Dealt, Tried, mended, cross, triple, minor};
+ghost use Rattle.code_word_laws.specs.Corrector.{Table, Spectrum, Transformed, Guessed, Acceptable, Dealt, Tried, mended};
 use code_word_locator::clear;
 use code_word_locator::inverted;
 use code_word_locator::logarithm;

@@ -14,7 +14,7 @@ use lib.Seq.{getD-set-same, getD-set-other, length-take-le, take-at, drop-at, dr
 use borrow.Author.Tests.{eqb-true, eqb-false, ltb-true, ltb-false}
 use Rattle.laws.specs.Tab.{pick}
 use Rattle.code_word_laws.specs.Word.{SemiOctets}
-use Rattle.code_word_laws.specs.Correct.{Mended, lengthAt, startAt, wordAt, EachMended}
+use Rattle.code_word_laws.specs.Correct.{Mended, lengthAt, startAt, EachMended}
 use Rattle.code_word_laws.specs.Corrector.{Dealt}
 use Rattle.code_word_laws.proofs.Register.{drop-semi-octets}
 use Rattle.code_word_laws.proofs.Division.{take-semi-octets}

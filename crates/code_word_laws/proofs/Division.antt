@@ -14,7 +14,7 @@ use borrow.Author.Tests.{eqb-true, eqb-false, ltb-true, ltb-false}
 use Rattle.gf16.specs.Field.{sum, expanded, lowered, reduced, product, power}
 use Rattle.gf16.proofs.Laws.{ring, ring2, sum-lt, sum-self, sum-zero, zero-sum, one-product, product-one, product-by-zero, zero-product, product-lt, power-lt}
 use Rattle.code_word_laws.specs.Polynomial.{value, scaled, added, multiplied, rooted, generator}
-use Rattle.code_word_laws.specs.Word.{SemiOctets, Valid, Roots, apart, unequal, distance}
+use Rattle.code_word_laws.specs.Word.{SemiOctets, Valid, Roots, apart, distance}
 use Rattle.code_word_laws.specs.Make.{lessened, remainder}
 use Rattle.code_word_laws.specs.Correct.{Near}
 use Rattle.code_word_laws.proofs.Places.{linear}

@@ -1,18 +1,18 @@
 -- The ends of the rule functions: from what their calls answered to the rule, at each level.
 -- Assumes nothing.
-use mathlib.Core.Path.{_≡_, refl, sym, ap, ap₂, _∙_}
+use mathlib.Core.Path.{_≡_, refl, ap, _∙_}
 use mathlib.Core.Bool.{Bool}
 use mathlib.Core.Logic.{_≢_}
 use mathlib.Core.List.{List, [], _∷_}
-use Prim.Native.Nat.{ℕ, zero, suc, _+_, _/_, _≤_, _<_}
+use Prim.Native.Nat.{ℕ, zero, suc, _/_, _≤_, _<_}
 use native.Mathlib.Omega.{arith}
-use lib.Dec.{T, eqb, eqb→eq}
+use lib.Dec.{eqb, eqb→eq}
 use lib.ListN.{getD}
 use Rattle.laws.proofs.Every.{at}
-use Rattle.gf16.specs.Field.{sum, product, power, inverse, expanded, lowered, reduced}
-use Rattle.gf16.proofs.Laws.{product-lt, inverse-lt}
+use Rattle.gf16.specs.Field.{product, power, inverse, expanded, lowered, reduced}
+use Rattle.gf16.proofs.Laws.{product-lt}
 use Rattle.code_word_laws.specs.Packed.{nibble}
-use Rattle.code_word_laws.specs.Corrector.{Flat, Thin, Rules, Ruled, cross, triple, minor}
+use Rattle.code_word_laws.specs.Corrector.{Flat, Thin, Rules, cross, triple, minor}
 use Rattle.code_word_laws.proofs.Packed.{nibble-lt}
 use Rattle.code_word_laws.proofs.Rule.{minor0, minor1, minor2, ruled-three, ruled-two, ruled-one}
 use Rattle.code_word_laws.proofs.Mend.{ruled-by}

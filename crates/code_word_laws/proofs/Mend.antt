@@ -5,23 +5,20 @@
 use mathlib.Core.Path.{_≡_, refl, sym, ap, ap₂, _∙_, fun-ext, subst}
 use mathlib.Core.Bool.{Bool, true, false, false≢true}
 use mathlib.Core.List.{List, [], _∷_}
-use Prim.Native.Nat.{ℕ, zero, suc, _+_, _-_, _*_, _/_, _%_, _≤_, _<_}
+use Prim.Native.Nat.{ℕ, zero, suc, _+_, _-_, _/_, _%_, _≤_, _<_}
 use native.Mathlib.Omega.{arith}
-use lib.Dec.{eqb}
 use lib.ListN.{length, getD}
 use borrow.Author.Tests.{eq-eqb}
 use Rattle.laws.specs.Decides.{Decides}
-use Rattle.gf16.specs.Field.{sum, product, power}
-use Rattle.gf16.proofs.Laws.{sum-lt, sum-comm, sum-assoc, sum-self, sum-zero, cancel}
+use Rattle.gf16.specs.Field.{sum, power}
+use Rattle.gf16.proofs.Laws.{sum-lt, sum-assoc, sum-self, sum-zero, cancel}
 use Rattle.code_word_laws.specs.Polynomial.{value}
-use Rattle.code_word_laws.specs.Word.{SemiOctets, Valid, Roots, apart, unequal, distance}
+use Rattle.code_word_laws.specs.Word.{SemiOctets, Roots, apart, unequal, distance}
 use Rattle.code_word_laws.specs.Correct.{Near, Mended}
 use Rattle.code_word_laws.specs.Packed.{nibble}
 use Rattle.code_word_laws.specs.Corrector.{Spectrum, Clear, Acceptable, weight, Explains, Recurs, Ruled, back, Transformed, Guessed, mended}
-use Rattle.code_word_laws.proofs.Places.{total, Rising}
 use Rattle.code_word_laws.proofs.Distance.{support, support-rising, support-few, sums, sums-length, sums-semi-octets, value-sums, value-total}
 use Rattle.code_word_laws.proofs.Division.{valid-roots, roots-valid, nearest}
-use Rattle.code_word_laws.proofs.Packed.{nibble-lt}
 use Rattle.code_word_laws.proofs.Transform.{undone}
 use Rattle.code_word_laws.proofs.Rule.{Follows}
 

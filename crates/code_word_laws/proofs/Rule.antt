@@ -10,10 +10,10 @@ use native.Mathlib.Omega.{arith}
 use native.Mathlib.Nat.{mod-eq-of-lt}
 use lib.ListN.{length, getD}
 use Rattle.gf16.specs.Field.{sum, product, power, inverse}
-use Rattle.gf16.proofs.Laws.{ring, ring2, sum-lt, sum-same, sum-zero, zero-sum, product-comm, product-assoc, product-lt, product-one, one-product, product-inverse, product-zero, product-by-zero, zero-product}
+use Rattle.gf16.proofs.Laws.{ring, ring2, sum-lt, sum-same, sum-zero, zero-sum, product-comm, product-assoc, product-lt, one-product, product-inverse, product-zero, product-by-zero, zero-product}
 use Rattle.code_word_laws.specs.Polynomial.{value}
 use Rattle.code_word_laws.specs.Corrector.{Recurs, cross, triple, minor}
-use Rattle.code_word_laws.proofs.Places.{place, total, dot, total-dot, total-of-zeros, Rising, Zero, vanish}
+use Rattle.code_word_laws.proofs.Places.{place, total, dot, total-dot, total-of-zeros, Rising, vanish}
 
 -- for any choice of at most t errors with the sums s, the sums go on by r1, r2, r3, and u is the third
 abbrev pub Follows : ℕ → List ℕ → ℕ → ℕ → ℕ → ℕ → Type 0

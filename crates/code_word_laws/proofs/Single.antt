@@ -16,7 +16,6 @@ use Rattle.gf16.proofs.Laws.{ring, sum-lt, product-one, power-power}
 use Rattle.code_word_laws.specs.Polynomial.{value}
 use Rattle.code_word_laws.specs.Word.{SemiOctets, Roots, apart, unequal}
 use Rattle.code_word_laws.specs.Correct.{Mended}
-use Rattle.code_word_laws.specs.Packed.{nibble}
 use Rattle.code_word_laws.specs.Corrector.{Row, Spectrum, Clear, Tried}
 use Rattle.code_word_laws.proofs.Packed.{nibble-xor}
 use Rattle.code_word_laws.proofs.Turns.{changed}

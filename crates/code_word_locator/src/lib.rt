@@ -6,15 +6,12 @@
 ghost use mathlib.Core.Path.{_≡_};
 ghost use mathlib.Core.Logic.{_≢_};
 ghost use Prim.Native.Nat.{_+_, _^_, _≤_, _<_};
-ghost use lib.Dec.{ltb};
 ghost use lib.ListN.{length};
 ghost use Rattle.laws.specs.Decides.{Decides};
-ghost use Rattle.laws.specs.Tab.{pick};
 ghost use Rattle.gf16.specs.Field.{product, power, inverse};
-ghost use Rattle.code_word_laws.specs.Word.{SemiOctets, apart};
-ghost use Rattle.code_word_laws.specs.Correct.{Mended, EachMended};
+ghost use Rattle.code_word_laws.specs.Word.{SemiOctets};
 ghost use Rattle.code_word_laws.specs.Packed.{nibble};
-ghost use Rattle.code_word_laws.specs.Corrector.{Table, Row, Spectrum, Clear, Flat, Thin, Rules, Transformed, Guessed, Acceptable, Dealt, Tried, mended, cross, triple, minor};
+ghost use Rattle.code_word_laws.specs.Corrector.{Table, Row, Spectrum, Clear, Flat, Thin, Rules, cross, triple, minor};
 
 // Number 16 a + b: the digits from the lowest on are b times 2^(a j) for j = 0 .. 14, and the highest is a times b.
 // Its low half is entry 2 (16 a + b) and its high half the next: halves of 32 bits are built sixteen bytes at a time, numbers of 64 bits one by one.

@@ -1,5 +1,5 @@
 -- The size of a slot that is chosen. Assumes nothing.
-use Prim.Native.Nat.{ℕ, _≤_}
+use Prim.Native.Nat.{_≤_}
 use Rattle.day_sample.specs.declared.air.Fit.{Fit}
 use Rattle.day_sample.specs.declared.air.Fit.the-variants.{Slot, Nothing}
 

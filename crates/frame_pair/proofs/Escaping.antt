@@ -3,28 +3,27 @@
 use mathlib.Core.Path.{_≡_, refl, sym, ap, _∙_, subst}
 use mathlib.Core.Bool.{Bool, true, false, cond}
 use mathlib.Core.List.{List}
-use Prim.Native.Nat.{ℕ, zero, suc, _+_, _-_, _*_, _/_, _%_, _^_, _≤_, _<_}
+use Prim.Native.Nat.{ℕ, suc, _+_, _-_, _*_, _/_, _%_, _^_, _≤_, _<_}
 use native.Mathlib.Omega.{arith}
-use native.Mathlib.Nat.{two-pow-succ, mul-le-mul, mul-le-mul-right, add-zero}
+use native.Mathlib.Nat.{two-pow-succ, mul-le-mul, mul-le-mul-right}
 use native.Mathlib.Numerals.{add-one}
-use lib.Dec.{ltb, leb, eqb}
+use lib.Dec.{ltb, leb}
 use lib.ListN.{length, getD}
 use lib.Pow.{pow-mono, shl-exact}
 use borrow.Author.Tests.{ltb-true, leb-true, leb-false, lt-ltb, le-ltb, le-leb, lt-leb, eq-eqb, ne-eqb}
 use Rattle.coder_tables.specs.Layout.{byLevel}
 use Rattle.coder_tables.specs.Rows.{Row, SpectrumTables}
 use Rattle.coder_tables.proofs.LayoutRules.{by-level-at}
-use Rattle.frame_bits.specs.Read.{Read, value, cause}
+use Rattle.frame_bits.specs.Read.{value, cause}
 use Rattle.frame_bits.specs.Bits.{readBit}
 use Rattle.frame_coder.specs.Symbol.{symbolOf}
-use Rattle.frame_pair.specs.Pair.{Streams, Values, capped, rowOf, planeOf, lastOf, signOf, contextOf, signedOf, pairOf}
+use Rattle.frame_pair.specs.Pair.{capped, rowOf, planeOf, lastOf, signOf, contextOf, signedOf, pairOf}
 use Rattle.frame_pair.specs.Sound.{Built, Room, GoodSign}
 use Rattle.frame_bits.specs.Sound.{GoodBit}
 use Rattle.frame_bits.specs.declared.Bits.{Bits}
 use Rattle.frame_bits.specs.declared.Bits.the-variants as bits
 use Rattle.frame_coder.specs.declared.Coder.{Coder}
 use Rattle.frame_pair.specs.declared.Last.{Last}
-use Rattle.frame_pair.specs.declared.Pair.{Pair}
 
 -- ---- values
 

@@ -11,14 +11,14 @@ use native.Mathlib.Numerals.{add-one}
 use lib.Dec.{eqb}
 use lib.ListN.{length, getD, set, length-set}
 use lib.Seq.{getD-set-same, getD-set-other}
-use lib.IntN.{ℤ, pos, negsuc, natAbs, negℤ, _-ℤ_, +ℤ-idl}
+use lib.IntN.{ℤ, pos, natAbs, negℤ, _-ℤ_, +ℤ-idl}
 use mir.Syntax.{w32}
 use mir.Val.{SFits, ofZ, toZ}
 use mir.ValLaws.{toZ-pos, toZ-ofZ}
 use borrow.Author.Tests.{eqb-true, eqb-false, eq-eqb, ne-eqb}
-use Rattle.frame_bits.specs.Read.{Read, value, cause}
-use Rattle.frame_pair.specs.Pair.{Streams, pairOf}
-use Rattle.frame_pairs.specs.Pairs.{Spectrum, baseOf, lineOf, storeOf, pairsOf}
+use Rattle.frame_bits.specs.Read.{value, cause}
+use Rattle.frame_pair.specs.Pair.{pairOf}
+use Rattle.frame_pairs.specs.Pairs.{baseOf, lineOf, storeOf, pairsOf}
 use Rattle.frame_pair.specs.Sound.{Room}
 use Rattle.frame_pairs.specs.Sound.{Roomy}
 use Rattle.frame_coder.specs.declared.Coder.{Coder}

@@ -2,7 +2,7 @@
 // Inner: `frame_residual` cites it, `frame_spectral` stands over it. It asks as `frame_pair` does, for at most 200 pairs, and for 400 lines
 // and 200 levels.
 ghost use mathlib.Core.Path.{_≡_};
-ghost use Prim.Native.Nat.{_+_, _*_, _≤_, _<_, _/_};
+ghost use Prim.Native.Nat.{_+_, _*_, _≤_, _<_};
 ghost use lib.ListN.{length};
 ghost use Rattle.coder_tables.specs.Layout.{byLevel};
 ghost use Rattle.coder_tables.specs.Rows.{SpectrumTables};

@@ -11,7 +11,7 @@ use lib.ListN.{getD, set}
 use lib.IntN.{ℤ, pos}
 use borrow.Author.Tests.{le-leb, lt-leb}
 use Rattle.frame_bits.specs.Bits.{bitOf}
-use Rattle.frame_residual.specs.Residual.{Residual, log2Of, isZero, residualOf}
+use Rattle.frame_residual.specs.Residual.{log2Of, isZero, residualOf}
 
 -- ---- floor (log2 r)
 

@@ -1,9 +1,9 @@
 -- The late low bits of LSB mode 1 (5.4.2.8): a line's, the turns of the loop over the lines, and the room that they leave.
 -- Assumes nothing.
-use mathlib.Core.Path.{_≡_, refl, sym, ap, _∙_, subst}
+use mathlib.Core.Path.{_≡_, refl, sym, ap}
 use mathlib.Core.Bool.{Bool, true, false, false≢true}
 use mathlib.Core.List.{List}
-use Prim.Native.Nat.{ℕ, zero, suc, _+_, _-_, _*_, _/_, _^_, _≤_, _<_}
+use Prim.Native.Nat.{ℕ, zero, suc, _+_, _-_, _/_, _≤_, _<_}
 use native.Mathlib.Omega.{arith}
 use native.Mathlib.Nat.{add-zero, sub-zero}
 use native.Mathlib.Numerals.{add-one}
@@ -17,7 +17,7 @@ use mir.Val.{SFits, ofZ, toZ}
 use mir.ValLaws.{toZ-ofZ}
 use borrow.Author.Tests.{ltb-true, eq-eqb, ne-eqb, eqb-true, eqb-false}
 use Rattle.frame_bits.specs.Bits.{bitOf}
-use Rattle.frame_residual.specs.Residual.{Late, line, stop, isZero, away, bornOf, lateOf, latesOf}
+use Rattle.frame_residual.specs.Residual.{line, stop, isZero, away, bornOf, lateOf, latesOf}
 use Rattle.frame_pairs.specs.Sound.{Roomy, Small}
 use Rattle.frame_residual.specs.Sound.{GoodLate}
 use Rattle.frame_residual.specs.declared.LateRead.{LateRead}

@@ -4,7 +4,7 @@ use mathlib.Core.Bool.{Bool, cond}
 use mathlib.Core.List.{List}
 use Prim.Native.Nat.{ℕ, zero, suc, _+_, _-_, _*_, _/_, _^_}
 use lib.Dec.{ltb, leb, eqb}
-use lib.ListN.{length, getD, set}
+use lib.ListN.{getD, set}
 use lib.IntN.{ℤ, pos, negsuc}
 use Rattle.frame_bits.specs.Read.{Read, value, cause}
 use Rattle.frame_bits.specs.Bits.{bitOf}

@@ -1,6 +1,6 @@
 -- The settings of a 10 ms frame (document 01, "Reading a frame"): what the rate gives, and how long a frame may be. Assumes nothing.
 use mathlib.Core.Path.{_≡_}
-use mathlib.Core.Bool.{Bool, cond}
+use mathlib.Core.Bool.{cond}
 use mathlib.Core.List.{List, [], _∷_}
 use Prim.Native.Nat.{ℕ, _+_, _*_, _/_, _≤_}
 use lib.Dec.{ltb, eqb}

@@ -3,7 +3,6 @@
 // Inner: `frame_spectral` and `frame` stand over it. It asks for a known setting and a frame of 20 to 400 bytes.
 ghost use mathlib.Core.Path.{_≡_};
 ghost use Prim.Native.Nat.{_+_, _*_, _≤_, _<_};
-ghost use lib.ListN.{length};
 ghost use Rattle.frame_settings.specs.Settings.{Known, Sized};
 ghost use Rattle.frame_side.specs.Side.{headOf, headGiven, secondFlag, flagsOf, flagsGiven, jointEnd, shapeOf, shapeGiven, tailOf, tailGiven};
 ghost use Rattle.frame_side.specs.Side.{sideOf, sideGiven, headCause, flagsCause, shapeCause, tailCause, sideCause};

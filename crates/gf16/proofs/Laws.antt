@@ -5,13 +5,13 @@
 use mathlib.Core.Path.{_≡_, refl, sym, ap, ap₂, _∙_, subst}
 use mathlib.Core.Bool.{Bool, true, false}
 use mathlib.Core.Logic.{_≢_}
-use Prim.Native.Nat.{ℕ, zero, suc, _+_, _*_, _/_, _%_, _≤_, _<_}
+use Prim.Native.Nat.{ℕ, zero, suc, _+_, _*_, _/_, _%_, _<_}
 use native.Mathlib.Omega.{arith}
 use native.Mathlib.Nat.{mod-eq-of-lt, zero-add, suc-add}
 use lib.Arith.{bin-ind}
 use lib.Bits.{bitXor, differ, xor-comm, xor-self, xor-zero-l, xor-zero-r, xor-step, xor-lt, xor-mod, xor-shr}
 use lib.Dec.{T, eqb, ltb, eqb→eq, ltb→lt}
-use borrow.Author.Tests.{eq-eqb, ne-eqb}
+use borrow.Author.Tests.{eq-eqb}
 use Rattle.laws.proofs.Every.{implies, implies-elim, both, both-left, both-right, at, at2, at3}
 use Rattle.gf16.specs.Field.{sum, expanded, lowered, reduced, product, power, inverse}
 use Rattle.gf16.proofs.Products.{looked, product-looked, looked-lt}

@@ -1,6 +1,6 @@
 -- What the steps of the inverse ask: its five products make the power 14.
 -- Assumes nothing.
-use mathlib.Core.Path.{_≡_, refl, sym, ap, _∙_, subst}
+use mathlib.Core.Path.{_≡_}
 use Prim.Native.Nat.{ℕ}
 use Rattle.gf16.specs.Field.{product, power, inverse}
 use Rattle.gf16.proofs.Laws.{product-assoc, product-one, product-of-mod}

@@ -14,7 +14,7 @@ use borrow.Author.Tests.{lt-ltb, leb-true, le-leb}
 use Rattle.record.specs.declared.Counted.the-variants as counts
 use Rattle.record_bytes.specs.declared.Walked.the-variants as walked
 use Rattle.record_bytes.specs.Layout.{RecordEntry, big, trailer, entryBytes, entriesBytes, recordBytes, inRange, EntryInRange, IsRecord, most}
-use Rattle.record_bytes.specs.Reading.{number, entryEnding, mayEnd, entryBefore, readBack, readRecord}
+use Rattle.record_bytes.specs.Reading.{number, readRecord}
 use Rattle.record_bytes.specs.Located.{located, locate}
 use Rattle.record.specs.Answers.{Answer, accepted, refused, entriesOf, entriesAnswer, entryAnswer, frameAt, framePart, mayAddTo, mayAdd, hasRoom, addAnswer, addBuffer}
 use Rattle.record_bytes.specs.Steps.{walkOf}

@@ -1,9 +1,7 @@
 // The session record of document 01: entries of a frame, a request and a count, one after the other, then their number.
 // It stands over `record_bytes`. Each public function is total and equals its definition in specs/Answers.antt, the lent buffer too;
 // specs/Layout.antt of `record_bytes` says which bytes a list of entries is. Nothing is written before the last test.
-
 ghost use mathlib.Core.Path.{_≡_};
-ghost use Rattle.record_bytes.specs.Layout.{RecordEntry};
 ghost use Rattle.record.specs.Answers.{madeNumber, newNumber, newBuffer, countedAnswer, entriesAnswer, foundAnswer, entryAnswer, framePart, mayAddTo, addedAnswer, addAnswer, addBuffer};
 ghost use Rattle.record.specs.Meaning.{CountMeans, StoredBy};
 pub use record_bytes::Located;

@@ -1,7 +1,6 @@
 -- Document 01's example of a listing, computed. Assumes nothing.
 use mathlib.Core.Path.{_≡_, refl}
-use mathlib.Core.List.{List, [], _∷_}
-use Prim.Native.Nat.{ℕ}
+use mathlib.Core.List.{[], _∷_}
 use lib.ListN.{replicate}
 use Rattle.record_bytes.specs.Layout.{RecordEntry, big, trailer, entryBytes, entriesBytes, recordBytes, inRange}
 use Rattle.record_bytes.specs.Reading.{number, entryEnding, mayEnd, entryBefore, readBack, readRecord}

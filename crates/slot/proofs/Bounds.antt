@@ -1,9 +1,7 @@
 -- An accepted slot's request, count and frame have the bounds that a record asks for. Assumes nothing.
-use mathlib.Core.Path.{_≡_, sym, _∙_}
 use mathlib.Core.List.{List}
-use Prim.Native.Nat.{ℕ, zero, suc, _*_, _≤_, _<_}
+use Prim.Native.Nat.{ℕ, zero, suc, _≤_}
 use native.Mathlib.Omega.{arith}
-use Rattle.laws.specs.Tab.{total}
 use Rattle.laws.proofs.Tab.{total-most}
 use Rattle.code_word_laws.specs.Word.{apart}
 use Rattle.slot_laws.specs.Sizes.{InRange, words}

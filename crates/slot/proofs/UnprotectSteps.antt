@@ -6,9 +6,8 @@ use mathlib.Core.Bool.{true, false}
 use mathlib.Core.List.{List}
 use Prim.Native.Nat.{ℕ, zero, suc, _+_, _*_, _-_, _/_, _≤_}
 use native.Mathlib.Omega.{arith}
-use lib.ListN.{length, getD, take}
+use lib.ListN.{getD, take}
 use lib.Seq.{length-take-le}
-use Rattle.laws.specs.Tab.{Below}
 use Rattle.laws.proofs.Tab.{below-take}
 use Rattle.slot_laws.specs.Sizes.{words, hash1, hash2, frameSize}
 use Rattle.slot_laws.specs.Order.{mixed, Data}

@@ -10,7 +10,6 @@ ghost use Rattle.slot_laws.specs.Order.{Data};
 ghost use Rattle.slot.specs.Protect as protecting;
 ghost use Rattle.slot.specs.Unprotect as unprotecting;
 ghost use Rattle.slot.specs.Demand.{Sends, Carried};
-ghost use Rattle.slot_laws.specs.Back.{requestIn};
 use slot_repair::Outcome;
 pub use slot_sizes::frame_size;
 

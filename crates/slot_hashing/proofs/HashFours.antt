@@ -1,10 +1,10 @@
 -- Four semi-octets pushed at once: the sixteen highest bits of the remainder and the sixteen new ones enter only as their sum, and
 -- each semi-octet of that sum has a table of what it comes to sixteen powers higher. Over p and n; the tables are computed.
 -- Assumes nothing.
-use mathlib.Core.Path.{_≡_, refl, sym, ap, ap₂, _∙_}
+use mathlib.Core.Path.{_≡_, sym, ap, ap₂, _∙_}
 use mathlib.Core.Bool.{Bool}
 use mathlib.Core.List.{List, [], _∷_}
-use Prim.Native.Nat.{ℕ, zero, suc, _+_, _*_, _-_, _/_, _%_, _^_, _≤_, _<_}
+use Prim.Native.Nat.{ℕ, suc, _+_, _*_, _-_, _/_, _%_, _^_, _≤_, _<_}
 use native.Mathlib.Omega.{arith}
 use native.Mathlib.Nat.{one-mul, mul-assoc, div-lt-iff-lt-mul, mod-lt}
 use lib.Bits.{bitXor, xor-lt}

@@ -2,7 +2,7 @@
 -- Assumes nothing.
 use mathlib.Core.Path.{_≡_, refl, sym, ap, ap₂, _∙_}
 use mathlib.Core.Bool.{Bool, true, false}
-use mathlib.Core.List.{List, [], _∷_, _++_, append-nil}
+use mathlib.Core.List.{List, [], _∷_, _++_}
 use Prim.Native.Nat.{ℕ, zero, suc, _+_, _*_, _-_, _≤_, _<_}
 use native.Mathlib.Omega.{arith}
 use native.Mathlib.Numerals.{add-one}
@@ -11,9 +11,8 @@ use lib.Dec.{eqb, ltb}
 use lib.ListN.{length, getD, take, drop, set, length-set, length-append, length-drop, replicate, List·getD-append}
 use lib.Seq.{length-take-le, getD-take, getD-drop, getD-set-same, getD-set-other, getD-append-add}
 use borrow.Author.Tests.{eqb-true, eqb-false, ltb-true, ltb-false, lt-ltb, le-ltb}
-use borrow.Rule.Slice.PartMut.{midOf, putMid, same-len-mid}
 use Rattle.laws.specs.Tab.{total, Below}
-use Rattle.laws.proofs.Tab.{tab-is, total-next, total-none, total-up}
+use Rattle.laws.proofs.Tab.{tab-is, total-next, total-none}
 use Rattle.laws.proofs.Fill.{Filled, filled-last}
 use Rattle.gf16.specs.Field.{sum}
 use Rattle.code_word_laws.specs.Word.{distance}
@@ -27,7 +26,7 @@ use Rattle.slot_laws.specs.Words.{piece, dataWord, signatureRow, signature, pla
 use Rattle.slot_laws.specs.Order.{Data}
 use Rattle.slot_laws.specs.Slot.{codeWord, slotWith}
 use Rattle.slot_interleaving.specs.Inner.{Spanned, Scattered, Placed}
-use Rattle.slot_laws.proofs.Sizes.{place-in, length-low, length-high, checks-fit, data-lengths}
+use Rattle.slot_laws.proofs.Sizes.{place-in, length-high, checks-fit}
 use Rattle.slot_laws.proofs.Semi.{pack-same, semi-octets-of, below-of}
 use Rattle.slot_laws.proofs.Places.{AllWords, place-lt, place-word, place-number, place-back, word-lt, number-lt, slot-lt}
 use Rattle.slot_laws.proofs.Slot.{all-words, length-word, semi-octets-word}

@@ -12,7 +12,7 @@ use Rattle.laws.proofs.Tab.{total-next, total-up, below-append, below-take, bel
 use Rattle.slot_laws.specs.Sizes.{InRange, words, wordLength, dataLength}
 use Rattle.slot_laws.specs.Words.{piece, dataWord}
 use Rattle.slot_laws.specs.Order.{Data}
-use Rattle.slot_laws.proofs.Sizes.{lengths, checks-fit, data-lengths}
+use Rattle.slot_laws.proofs.Sizes.{checks-fit, data-lengths}
 use Rattle.slot_laws.proofs.Words.{piece-front}
 
 module _ (size mode i at n e : ℕ) (old : List ℕ) (range : InRange size mode) (inside : i < words size) (start : at ≡ total (dataLength size mode) i)

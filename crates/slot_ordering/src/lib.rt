@@ -5,7 +5,6 @@ ghost use Prim.Native.Nat.{_+_, _-_, _*_, _^_, _≤_, _<_};
 ghost use lib.ListN.{length, drop};
 ghost use Rattle.laws.specs.Tab.{Below};
 ghost use Rattle.slot_laws.specs.Sizes.{InRange, hash1, hash2, frameSize};
-ghost use Rattle.slot_laws.specs.Slot.{Sent};
 ghost use Rattle.slot_laws.specs.Order.{unrolled, semis, heading, ordered, swapped, mixed, dataOf, Data};
 
 // The frame's semi-octets, byte order reversed (A.16, A.17).

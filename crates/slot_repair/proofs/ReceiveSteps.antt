@@ -12,7 +12,6 @@ use Rattle.laws.proofs.Fill.{Filled, filled-next, filled-last}
 use Rattle.gf16.specs.Field.{sum}
 use Rattle.code_word_laws.specs.Word.{apart}
 use Rattle.slot_laws.specs.Sizes.{InRange, words, wordLength}
-use Rattle.slot_laws.specs.Semi.{semi}
 use Rattle.slot_laws.specs.Words.{signature, placeOf}
 use Rattle.slot_laws.specs.Order.{Data}
 use Rattle.slot_laws.specs.Slot.{codeWord, slotWith, wordIn}

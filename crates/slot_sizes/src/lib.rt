@@ -3,7 +3,7 @@
 // to callers, asks nothing.
 ghost use mathlib.Core.Path.{_≡_};
 ghost use Prim.Native.Nat.{_+_, _*_, _≤_, _<_};
-ghost use Rattle.slot_laws.specs.Sizes.{InRange, words, wordLength, dataLength, concealWords, conceal, hash1, hash2, frameSize, IsFrameSize};
+ghost use Rattle.slot_laws.specs.Sizes.{InRange, words, wordLength, concealWords, conceal, hash1, hash2, frameSize, IsFrameSize};
 
 pub fn word_count(size: usize) -> usize
     requires { ⌜ size ≤ 400 ⌝ }

@@ -1,8 +1,5 @@
 -- `code_word::correct_each` meets its contract. Assumes nothing.
-use mathlib.Core.Path.{_≡_}
-use Prim.Native.Nat.{_≤_}
 use native.Mathlib.Omega.{arith}
-use lib.ListN.{length}
 use borrow.Author.Needs.{needs}
 use Rattle.code_word_laws.proofs.Promises.{told-no, told-yes, none-asked, none-fitting, none-fitting-longer, none-elements, dealt-out, all-corrected}
 use Rattle.code_word.proofs.correct_each.Statement.{statement}

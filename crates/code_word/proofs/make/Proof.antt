@@ -1,10 +1,9 @@
 -- `code_word::make` meets its contract. Assumes nothing.
-use mathlib.Core.Path.{_≡_}
 use Prim.Native.Nat.{_*_, _-_}
 use native.Mathlib.Omega.{arith}
-use lib.ListN.{length, drop}
+use lib.ListN.{length}
 use borrow.Author.Needs.{needs}
-use Rattle.code_word_laws.specs.Word.{SemiOctets, Fits}
+use Rattle.code_word_laws.specs.Word.{Fits}
 use Rattle.code_word_laws.proofs.Promises.{told-no, told-yes, not-made-fitting}
 use Rattle.code_word_laws.proofs.Encoding as encoding
 use Rattle.code_word.proofs.make.Statement.{statement}

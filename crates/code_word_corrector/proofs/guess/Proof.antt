@@ -1,7 +1,6 @@
 -- `code_word_corrector::guess` meets its contract. Assumes nothing.
 use borrow.Author.Needs.{needs}
 use Rattle.code_word_laws.proofs.Mend.{guessed}
-use Rattle.code_word_laws.proofs.Packed.{nibble-lt}
 use Rattle.code_word_corrector.proofs.guess.Statement.{statement}
 use Rattle.code_word_corrector.proofs.guess.Tie as tie
 

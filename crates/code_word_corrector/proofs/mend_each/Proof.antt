@@ -4,7 +4,7 @@ use Prim.Native.Nat.{_+_, _≤_, _<_, _-_}
 use native.Mathlib.Numerals.{add-one}
 use native.Mathlib.Omega.{arith}
 use lib.Seq.{length-take-le}
-use lib.ListN.{length, take, drop, length-take, length-drop}
+use lib.ListN.{length, drop, length-take, length-drop}
 use borrow.Author.Needs.{needs}
 use Rattle.code_word_laws.specs.Correct.{lengthAt}
 use Rattle.code_word_corrector.proofs.dealt.Reads as dealt-reads

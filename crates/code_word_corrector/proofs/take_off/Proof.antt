@@ -1,6 +1,6 @@
 -- `code_word_corrector::take_off` meets its contract. The loop has the front done and the rest as it was. Assumes nothing.
-use mathlib.Core.Path.{refl, sym}
-use Prim.Native.Nat.{_≤_, _-_, _/_}
+use mathlib.Core.Path.{refl}
+use Prim.Native.Nat.{_≤_, _-_}
 use native.Mathlib.Omega.{arith}
 use lib.ListN.{length}
 use borrow.Author.Needs.{needs}

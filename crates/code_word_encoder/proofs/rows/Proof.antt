@@ -1,6 +1,5 @@
 -- `code_word_encoder::rows` meets its contract: each table is computed from the field. Assumes nothing.
 use mathlib.Core.Path.{_≡_, refl}
-use Prim.Native.Nat.{ℕ}
 use native.Mathlib.Omega.{arith}
 use Rattle.gf16.specs.Field.{sum, expanded, lowered, reduced, product, power}
 use Rattle.code_word_laws.specs.Polynomial.{scaled, added, multiplied, rooted}

@@ -1,5 +1,5 @@
 -- `code_word_locator::rule_one` meets its contract. Assumes nothing.
-use mathlib.Core.Path.{_≡_, refl}
+use mathlib.Core.Path.{refl}
 use native.Mathlib.Omega.{arith}
 use borrow.Author.Needs.{needs}
 use Rattle.gf16.proofs.Laws.{product-lt}

@@ -1,7 +1,7 @@
 -- `code_word_locator::spectrum` meets its contract. The loop has the spectrum of the semi-octets passed. Assumes nothing.
 use Prim.Native.Nat.{_≤_, _-_}
 use native.Mathlib.Omega.{arith}
-use lib.ListN.{length, getD}
+use lib.ListN.{length}
 use borrow.Author.Needs.{needs}
 use Rattle.code_word_laws.proofs.Division.{semi-octet-at}
 use Rattle.code_word_laws.proofs.Turns.{SpectrumTo, spectrum-first, spectrum-next, spectrum-last}

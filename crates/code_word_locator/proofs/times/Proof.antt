@@ -1,11 +1,10 @@
 -- `code_word_locator::times` meets its contract. Assumes nothing.
-use mathlib.Core.Path.{_≡_, ap, _∙_}
+use mathlib.Core.Path.{ap, _∙_}
 use Prim.Native.Nat.{ℕ, _+_, _*_, _/_}
 use native.Mathlib.Omega.{arith}
 use lib.ListN.{getD}
 use borrow.Author.Needs.{needs}
 use Rattle.gf16.proofs.Laws.{product-lt}
-use Rattle.gf16.specs.Field.{product}
 use Rattle.code_word_locator.proofs.times.Statement.{statement}
 use Rattle.code_word_locator.proofs.times.Tie as tie
 

@@ -6,7 +6,7 @@ use Rattle.code_word_laws.specs.Checks.{summed}
 use Rattle.code_word_laws.proofs.Checks.{summed-none, summed-next}
 use Rattle.slot_interleaving.specs.Inner.{Spanned}
 use Rattle.slot_laws.specs.Words.{signature}
-use Rattle.slot_laws.specs.Sizes.{wordLength, words}
+use Rattle.slot_laws.specs.Sizes.{wordLength}
 use lib.ListN.{length, getD}
 use native.Mathlib.Omega.{arith}
 use mathlib.Core.Path.{_≡_, refl, sym, ap, _∙_}

@@ -7,10 +7,9 @@ use Rattle.slot_laws.specs.Slot.{codeWord}
 use Rattle.slot_laws.specs.Words.{signature}
 use Rattle.slot_laws.specs.Sizes.{dataLength, words}
 use Rattle.laws.specs.Tab.{total}
-use lib.ListN.{length}
 use native.Mathlib.Omega.{arith}
-use mathlib.Core.Path.{_≡_, refl, sym, _∙_}
-use Prim.Native.Nat.{_≤_, _-_, _+_, _*_, _<_}
+use mathlib.Core.Path.{_≡_, refl, sym}
+use Prim.Native.Nat.{_≤_, _-_, _*_, _<_}
 use borrow.Author.Needs.{needs}
 use Rattle.slot_interleaving.proofs.write_slot.Statement.{statement}
 use Rattle.slot_interleaving.proofs.write_slot.Tie as tie

@@ -1,6 +1,6 @@
 -- `slot_repair::receive_all` meets its contract. The loop has the first words in front, joined. Assumes nothing.
 use mathlib.Core.Path.{refl}
-use Prim.Native.Nat.{_≤_, _-_, _+_, _<_}
+use Prim.Native.Nat.{_≤_, _-_, _<_}
 use native.Mathlib.Omega.{arith}
 use borrow.Author.Needs.{needs}
 use Rattle.slot_laws.specs.Sizes.{words}

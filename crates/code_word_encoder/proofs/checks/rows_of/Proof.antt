@@ -1,7 +1,5 @@
 -- `code_word_encoder::checks::rows_of` meets its contract: each table is computed from the field. Assumes nothing.
-use mathlib.Core.Path.{_≡_, refl, sym, _∙_}
-use mathlib.Core.List.{List}
-use Prim.Native.Nat.{ℕ, _≤_}
+use mathlib.Core.Path.{_≡_, sym}
 use native.Mathlib.Omega.{arith}
 use Rattle.laws.specs.Tab.{tab}
 use Rattle.gf16.specs.Field.{sum, expanded, lowered, reduced, product, power}
