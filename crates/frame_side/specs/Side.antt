@@ -1,27 +1,25 @@
--- The side information (5.4.2.3), field by field in the order of reading, with causes 1 to 3. A field that is not sent is one of no
--- bits. Assumes nothing.
+-- The side information (5.4.2.3), field by field in the order of reading, with causes 1 and 2, and 3 from the shape. A field that is not
+-- sent is one of no bits. Assumes nothing.
 use mathlib.Core.Bool.{cond}
 use mathlib.Core.List.{List}
-use Prim.Native.Nat.{ℕ, _+_, _-_, _*_}
-use lib.Dec.{ltb, leb, eqb}
+use Prim.Native.Nat.{ℕ, _+_, _*_}
+use lib.Dec.{ltb}
 use Rattle.frame_bits.specs.Read.{Read, value, cause, andThen}
 use Rattle.frame_bits.specs.Bits.{readBits}
 use Rattle.frame_settings.specs.declared.Setting.{Setting}
 use Rattle.frame_side.specs.declared.Head.{Head}
 use Rattle.frame_side.specs.declared.Flags.{Flags}
-use Rattle.frame_side.specs.declared.Shape.{Shape}
 use Rattle.frame_side.specs.declared.Tail.{Tail}
 use Rattle.frame_side.specs.declared.Side.{Side}
 use Rattle.frame_side.specs.declared.HeadRead.{HeadRead}
 use Rattle.frame_side.specs.declared.HeadRead.the-variants as head
 use Rattle.frame_side.specs.declared.FlagsRead.{FlagsRead}
 use Rattle.frame_side.specs.declared.FlagsRead.the-variants as flags
-use Rattle.frame_side.specs.declared.ShapeRead.{ShapeRead}
-use Rattle.frame_side.specs.declared.ShapeRead.the-variants as shape
 use Rattle.frame_side.specs.declared.TailRead.{TailRead}
 use Rattle.frame_side.specs.declared.TailRead.the-variants as tail
 use Rattle.frame_side.specs.declared.SideRead.{SideRead}
 use Rattle.frame_side.specs.declared.SideRead.the-variants as side
+use Rattle.frame_shape.specs.Shape.{shapeOf}
 
 -- bandwidth (cause 1: bandwidth above index), last pair (last line = 2 x (field + 1), cause 2: last line above NE), LSB mode, global gain
 unfoldable pub headOf : List ℕ → Setting → Read ℕ Head
@@ -40,18 +38,6 @@ unfoldable pub flagsOf : List ℕ → ℕ → ℕ → Read ℕ Flags
 flagsOf s bandwidth p =
     andThen (readBits s p 1) (λ a p. andThen (readBits s p (secondFlag bandwidth)) (λ b p. andThen (readBits s p 1) (λ t p.
     value (record { «tns_0» = a; «tns_1» = b; «pitch_present» = t }) p)))
-
--- cause 3: the joint index "at or above 33,460,056 (25 bits) or 16,708,096 (24 bits)", by the mode bit
-abbrev pub jointEnd : ℕ → ℕ
-jointEnd mode = cond (eqb mode 0) 33460056 16708096
-
--- shape (5.4.7.2): 5, 5, the mode bit, the gain, the sign bit, and the joint index
-unfoldable pub shapeOf : List ℕ → ℕ → Read ℕ Shape
-shapeOf s p =
-    andThen (readBits s p 5) (λ l p. andThen (readBits s p 5) (λ h p. andThen (readBits s p 1) (λ m p.
-    andThen (readBits s p (1 + m)) (λ g p. andThen (readBits s p 1) (λ n p. andThen (readBits s p (25 - m)) (λ j p.
-    cond (leb (jointEnd m) j) (cause 3)
-    (value (record { low = l; high = h; mode = m; gain = g; sign = n; joint = j }) p)))))))
 
 -- with pitch the filter flag and the pitch index; then the noise level
 unfoldable pub tailOf : List ℕ → ℕ → ℕ → Read ℕ Tail
@@ -72,10 +58,6 @@ abbrev pub flagsGiven : FlagsRead → Read ℕ Flags
 flagsGiven (flags.Value f p) = value f p
 flagsGiven (flags.Cause k) = cause k
 
-abbrev pub shapeGiven : ShapeRead → Read ℕ Shape
-shapeGiven (shape.Value q p) = value q p
-shapeGiven (shape.Cause k) = cause k
-
 abbrev pub tailGiven : TailRead → Read ℕ Tail
 tailGiven (tail.Value t p) = value t p
 tailGiven (tail.Cause k) = cause k
@@ -92,10 +74,6 @@ headCause (head.Cause k) = k
 abbrev pub flagsCause : FlagsRead → ℕ
 flagsCause (flags.Value f p) = 0
 flagsCause (flags.Cause k) = k
-
-abbrev pub shapeCause : ShapeRead → ℕ
-shapeCause (shape.Value q p) = 0
-shapeCause (shape.Cause k) = k
 
 abbrev pub tailCause : TailRead → ℕ
 tailCause (tail.Value t p) = 0

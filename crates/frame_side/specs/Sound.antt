@@ -8,8 +8,6 @@ use Rattle.frame_side.specs.declared.HeadRead.{HeadRead}
 use Rattle.frame_side.specs.declared.HeadRead.the-variants as head
 use Rattle.frame_side.specs.declared.FlagsRead.{FlagsRead}
 use Rattle.frame_side.specs.declared.FlagsRead.the-variants as flags
-use Rattle.frame_side.specs.declared.ShapeRead.{ShapeRead}
-use Rattle.frame_side.specs.declared.ShapeRead.the-variants as shape
 use Rattle.frame_side.specs.declared.TailRead.{TailRead}
 use Rattle.frame_side.specs.declared.TailRead.the-variants as tail
 use Rattle.frame_side.specs.declared.SideRead.{SideRead}
@@ -25,10 +23,6 @@ GoodHead r (head.Cause k) = (1 ≤ k) × (k ≤ 2)
 abbrev pub GoodFlags : ℕ → FlagsRead → Type 0
 GoodFlags p (flags.Value f q) = (f .«tns_0» < 2) × (f .«tns_1» < 2) × (f .«pitch_present» < 2) × (q ≤ p + 3)
 GoodFlags p (flags.Cause k) = ⊥
-
-abbrev pub GoodShape : ℕ → ShapeRead → Type 0
-GoodShape p (shape.Value q next) = next ≤ p + 38
-GoodShape p (shape.Cause k) = k ≡ 3
 
 abbrev pub GoodTail : ℕ → TailRead → Type 0
 GoodTail p (tail.Value t q) = q ≤ p + 13

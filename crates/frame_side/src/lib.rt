@@ -4,14 +4,18 @@
 ghost use mathlib.Core.Path.{_≡_};
 ghost use Prim.Native.Nat.{_+_, _*_, _≤_, _<_};
 ghost use Rattle.frame_settings.specs.Settings.{Known, Sized};
-ghost use Rattle.frame_side.specs.Side.{headOf, headGiven, secondFlag, flagsOf, flagsGiven, jointEnd, shapeOf, shapeGiven, tailOf, tailGiven};
-ghost use Rattle.frame_side.specs.Side.{sideOf, sideGiven, headCause, flagsCause, shapeCause, tailCause, sideCause};
-ghost use Rattle.frame_side.specs.Sound.{GoodHead, GoodFlags, GoodShape, GoodTail, GoodSide};
+ghost use Rattle.frame_side.specs.Side.{headOf, headGiven, secondFlag, flagsOf, flagsGiven, tailOf, tailGiven};
+ghost use Rattle.frame_side.specs.Side.{sideOf, sideGiven, headCause, flagsCause, tailCause, sideCause};
+ghost use Rattle.frame_side.specs.Sound.{GoodHead, GoodFlags, GoodTail, GoodSide};
 use frame_bits::Bits;
 use frame_bits::cause_of;
 use frame_bits::read_bits;
 use frame_bits::wide;
 use frame_settings::Setting;
+pub use frame_shape::Shape;
+use frame_shape::ShapeRead;
+use frame_shape::read_shape;
+use frame_shape::shape_cause;
 
 pub struct Head {
     pub bandwidth: u8,
@@ -24,16 +28,6 @@ pub struct Flags {
     pub tns_0: u8,
     pub tns_1: u8,
     pub pitch_present: u8,
-}
-
-// Document 01's shape: the first and the second five bits, the mode bit, the gain, the sign bit and the joint index.
-pub struct Shape {
-    pub low: u8,
-    pub high: u8,
-    pub mode: u8,
-    pub gain: u8,
-    pub sign: u8,
-    pub joint: u32,
 }
 
 pub struct Tail {
@@ -57,11 +51,6 @@ pub enum HeadRead {
 
 pub enum FlagsRead {
     Value(Flags, usize),
-    Cause(u8),
-}
-
-pub enum ShapeRead {
-    Value(Shape, usize),
     Cause(u8),
 }
 
@@ -149,65 +138,6 @@ fn read_flags(s: &[u8], bandwidth: usize, p: usize) -> FlagsRead
     )
 }
 
-// Where the joint index ends, by the mode bit.
-fn joint_end(mode: usize) -> usize
-    ensures { λ r. ⌜ (r ≡ jointEnd mode) × (r < 4294967296) ⌝ }
-{
-    match mode {
-        0 => 33460056,
-        _ => 16708096,
-    }
-}
-
-fn read_shape(s: &[u8], p: usize) -> ShapeRead
-    requires { ⌜ (p ≤ 23) × Sized (now s) ⌝ }
-    ensures { λ r. ⌜ shapeGiven r ≡ shapeOf (now (s .entry)) p ⌝ }
-    ensures { λ r. ⌜ GoodShape p r ⌝ }
-{
-    let got = read_bits(s, p, 5);
-    let Bits::Value(low, p1) = got else {
-        return ShapeRead::Cause(cause_of(got));
-    };
-    let got2 = read_bits(s, p1, 5);
-    let Bits::Value(high, p2) = got2 else {
-        return ShapeRead::Cause(cause_of(got2));
-    };
-    let got3 = read_bits(s, p2, 1);
-    let Bits::Value(mode, p3) = got3 else {
-        return ShapeRead::Cause(cause_of(got3));
-    };
-    let got4 = read_bits(s, p3, 1 + mode);
-    let Bits::Value(gain, p4) = got4 else {
-        return ShapeRead::Cause(cause_of(got4));
-    };
-    let got5 = read_bits(s, p4, 1);
-    let Bits::Value(sign, p5) = got5 else {
-        return ShapeRead::Cause(cause_of(got5));
-    };
-    let got6 = read_bits(s, p5, 25 - mode);
-    let Bits::Value(joint, p6) = got6 else {
-        return ShapeRead::Cause(cause_of(got6));
-    };
-    if joint_end(mode) <= joint {
-        return ShapeRead::Cause(3);
-    }
-    ShapeRead::Value(shape_of(low, high, mode, gain, sign, joint), p6)
-}
-
-fn shape_of(low: usize, high: usize, mode: usize, gain: usize, sign: usize, joint: usize) -> Shape
-    requires { ⌜ (low < 32) × (high < 32) × (mode < 2) × (gain < 4) × (sign < 2) × (joint < 4294967296) ⌝ }
-    ensures { λ r. ⌜ r ≡ record { low = low; high = high; mode = mode; gain = gain; sign = sign; joint = joint } ⌝ }
-{
-    Shape {
-        low: low as u8,
-        high: high as u8,
-        mode: mode as u8,
-        gain: gain as u8,
-        sign: sign as u8,
-        joint: joint as u32,
-    }
-}
-
 fn read_tail(s: &[u8], pitch: usize, p: usize) -> TailRead
     requires { ⌜ (pitch < 2) × (p ≤ 61) × Sized (now s) ⌝ }
     ensures { λ r. ⌜ tailGiven r ≡ tailOf (now (s .entry)) pitch p ⌝ }
@@ -282,15 +212,6 @@ fn flags_cause(r: FlagsRead) -> u8
     match r {
         FlagsRead::Cause(k) => k,
         FlagsRead::Value(_, _) => 0,
-    }
-}
-
-fn shape_cause(r: ShapeRead) -> u8
-    ensures { λ k. ⌜ k ≡ shapeCause r ⌝ }
-{
-    match r {
-        ShapeRead::Cause(k) => k,
-        ShapeRead::Value(_, _) => 0,
     }
 }
 

@@ -4,11 +4,13 @@ use native.Mathlib.Omega.{arith}
 use denote.Ref.{now}
 use borrow.Author.Needs.{needs}
 use Rattle.frame_bits.specs.Read.{value}
-use Rattle.frame_side.specs.Side.{headOf, flagsOf, shapeOf, tailOf}
-use Rattle.frame_side.specs.Sound.{GoodHead, GoodFlags, GoodShape, GoodTail}
+use Rattle.frame_side.specs.Side.{headOf, flagsOf, tailOf}
+use Rattle.frame_shape.specs.Shape.{shapeOf}
+use Rattle.frame_side.specs.Sound.{GoodHead, GoodFlags, GoodTail}
+use Rattle.frame_shape.specs.Sound.{GoodShape}
 use Rattle.frame_side.specs.declared.HeadRead.the-variants as head
 use Rattle.frame_side.specs.declared.FlagsRead.the-variants as flags
-use Rattle.frame_side.specs.declared.ShapeRead.the-variants as shape
+use Rattle.frame_shape.specs.declared.ShapeRead.the-variants as shape
 use Rattle.frame_side.specs.declared.TailRead.the-variants as tail
 use Rattle.frame_side.proofs.read_side.Statement.{statement}
 use Rattle.frame_side.proofs.SideFields.{side-head, side-shape, side-done}

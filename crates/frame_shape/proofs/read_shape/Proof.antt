@@ -4,10 +4,10 @@ use Prim.Native.Nat.{_+_, _-_}
 use native.Mathlib.Omega.{arith}
 use denote.Ref.{now}
 use borrow.Author.Needs.{needs}
-use Rattle.frame_side.proofs.read_shape.Statement.{statement}
+use Rattle.frame_shape.proofs.read_shape.Statement.{statement}
 use Rattle.frame_bits.proofs.SideBits.{Field, field-of, no-cause, in-more}
-use Rattle.frame_side.proofs.SideFields.{shape-far, shape-done}
-use Rattle.frame_side.proofs.read_shape.Tie as tie
+use Rattle.frame_shape.proofs.ShapeFields.{shape-far, shape-done}
+use Rattle.frame_shape.proofs.read_shape.Tie as tie
 
 -- the place of each field: where it is read, the field before it, and the start
 abbrev start-low : tie.After-got → tie.Start

@@ -1,8 +1,8 @@
 -- `frame_side::joint_end` meets its contract. Assumes nothing.
 use native.Mathlib.Omega.{arith}
 use borrow.Author.Tests.{eq-eqb, ne-eqb}
-use Rattle.frame_side.proofs.joint_end.Statement.{statement}
-use Rattle.frame_side.proofs.joint_end.Tie as tie
+use Rattle.frame_shape.proofs.joint_end.Statement.{statement}
+use Rattle.frame_shape.proofs.joint_end.Tie as tie
 
 returns : tie.Need-returns
 returns c = (simp (eq-eqb (c .before .args .mode) 0 (omega arith)), omega arith)
