@@ -5,10 +5,14 @@
 ghost use mathlib.Core.Path.{_≡_};
 ghost use lib.ListN.{length};
 ghost use Rattle.frame_settings.specs.Settings.{Known, Sized};
-ghost use Rattle.frame_tns.specs.Tns.{unused};
-ghost use Rattle.frame.specs.Frame.{answered, judgedOf, judgedSized, judgedRead, arithmeticFrom, givenOf, spectrumOf, residualAfter, told};
-ghost use Rattle.frame_side.specs.Sound.{Sided};
-ghost use Rattle.frame.specs.Sound.{Bounded};
+ghost use Rattle.frame.specs.Frame.{judgedOf, judgedSized};
+ghost use Rattle.frame_arithmetic.specs.Answers.{givenOf, spectrumOf, residualAfter, told};
+ghost use Rattle.frame_arithmetic.specs.Sound.{Bounded};
+pub use frame_arithmetic::Answer;
+pub use frame_arithmetic::Fields;
+pub use frame_arithmetic::Reading;
+use frame_arithmetic::read_arithmetic;
+use frame_arithmetic::refused;
 use frame_settings::Rate;
 use frame_settings::Setting;
 pub use frame_settings::line_count;
@@ -18,58 +22,6 @@ pub use frame_side::Shape;
 pub use frame_side::Side;
 use frame_side::SideRead;
 pub use frame_side::Tail;
-use frame_spectral::SpectralRead;
-use frame_spectral::read_spectral;
-use frame_spectral::spectral_cause;
-use frame_tns::FilterRead;
-
-// What an accepted frame says beside its TNS coefficients, spectrum and residual bits.
-pub struct Fields {
-    pub side: Side,
-    pub tns_order_0: u8,
-    pub tns_order_1: u8,
-    pub residual_bits: u16,
-    pub symbols: u16,
-}
-
-// The fields, or document 01's refusal 1, 2 or 5; 5 with its cause.
-pub enum Answer {
-    Read(Fields),
-    Setting,
-    Length,
-    BitError(u8),
-}
-
-impl Answer {
-    // Document 01's number.
-    pub fn number(self) -> u8
-        ensures { λ r. ⌜ r ≡ answered self unused unused .number ⌝ }
-    {
-        match self {
-            Answer::Read(_) => 0,
-            Answer::Setting => 1,
-            Answer::Length => 2,
-            Answer::BitError(_) => 5,
-        }
-    }
-}
-
-// The answer, and beside it each filter's coefficients: 0 from its order on, and all 0 on a refusal.
-pub struct Reading {
-    pub answer: Answer,
-    pub tns_coefficients_0: [u8; 8],
-    pub tns_coefficients_1: [u8; 8],
-}
-
-fn refused(answer: Answer) -> Reading
-    ensures { λ r. ⌜ r ≡ record { answer = answer; «tns_coefficients_0» = unused; «tns_coefficients_1» = unused } ⌝ }
-{
-    Reading {
-        answer,
-        tns_coefficients_0: [0; 8],
-        tns_coefficients_1: [0; 8],
-    }
-}
 
 // One frame, by clause 5.4.2.
 pub fn read(khz: u32, frame: &[u8], spectrum: &mut [i32], residual: &mut [u8]) -> Reading
@@ -109,51 +61,4 @@ fn read_sized(r: Setting, frame: &[u8], spectrum: &mut [i32], residual: &mut [u8
         return refused(Answer::BitError(frame_side::side_cause(got)));
     };
     read_arithmetic(r, v, p, frame, spectrum, residual)
-}
-
-// The arithmetic stream: the TNS data of both filters, then the pairs.
-fn read_arithmetic(
-    r: Setting,
-    v: Side,
-    p: usize,
-    frame: &[u8],
-    spectrum: &mut [i32],
-    residual: &mut [u8],
-) -> Reading
-    requires { ⌜ Known r × Sized (now frame) × Sided r v p × (length (now spectrum) ≡ r .lines) × (length (now residual) ≡ r .lines) ⌝ }
-    ensures { λ o. ⌜ told o ≡ givenOf (judgedRead (arithmeticFrom (now (frame .entry)) r v p)) ⌝ }
-    ensures { λ o. ⌜ now (spectrum .exit) ≡ spectrumOf (judgedRead (arithmeticFrom (now (frame .entry)) r v p)) (now (spectrum .entry)) ⌝ }
-    ensures { λ o. ⌜ now (residual .exit) ≡ residualAfter (judgedRead (arithmeticFrom (now (frame .entry)) r v p)) (now (residual .entry)) ⌝ }
-    ensures { λ o. ⌜ Bounded (o .answer) (now (spectrum .exit)) ⌝ }
-{
-    let orders = coder_tables::tns_order();
-    let rows = coder_tables::tns_coefficients();
-    let w = frame_settings::tns_weighting(frame.len());
-    let f = v.flags;
-    let mut first = [0u8; 8];
-    let mut second = [0u8; 8];
-    let start = frame_coder::start(frame);
-    let got = frame_tns::filter(frame, &orders, &rows, w, f.tns_0, &mut first, start);
-    let FilterRead::Value(m, c) = got else {
-        return refused(Answer::BitError(frame_tns::filter_cause(got)));
-    };
-    let got2 = frame_tns::filter(frame, &orders, &rows, w, f.tns_1, &mut second, c);
-    let FilterRead::Value(n, d) = got2 else {
-        return refused(Answer::BitError(frame_tns::filter_cause(got2)));
-    };
-    let got3 = read_spectral(r, v.head, d, p, frame, spectrum, residual);
-    let SpectralRead::Value(symbols, count, _) = got3 else {
-        return refused(Answer::BitError(spectral_cause(got3)));
-    };
-    Reading {
-        answer: Answer::Read(Fields {
-            side: v,
-            tns_order_0: m,
-            tns_order_1: n,
-            residual_bits: count,
-            symbols,
-        }),
-        tns_coefficients_0: first,
-        tns_coefficients_1: second,
-    }
 }

@@ -2,7 +2,8 @@
 ghost use mathlib.Core.Path.{_≡_};
 ghost use lib.ListN.{length};
 ghost use Rattle.frame_settings.specs.Settings.{lineCount};
-ghost use Rattle.frame.specs.Frame.{judgedOf, givenOf, spectrumOf, residualAfter};
+ghost use Rattle.frame.specs.Frame.{judgedOf};
+ghost use Rattle.frame_arithmetic.specs.Answers.{givenOf, spectrumOf, residualAfter};
 ghost use Rattle.silberlaus_frames.specs.Frames.{frameGiven, judgedEntry, Bounded};
 use silberlaus_frames::SilberlausFrame;
 

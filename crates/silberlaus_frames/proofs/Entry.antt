@@ -12,14 +12,15 @@ use lib.IntN.{ℤ}
 use borrow.Author.Tests.{le-leb, ltb-true, ltb-false, eq-eqb, ne-eqb}
 use Rattle.frame_settings.specs.Settings.{rateOf, linesAt, lineCount}
 use Rattle.frame_settings.proofs.Rates.{rate-unknown}
-use Rattle.frame.specs.Frame.{Judged, refused, judgedRead, judgedAt, judgedOf, frameOf, Given, answered, told, givenOf, refusedWith, spectrumOf, residualAfter}
-use Rattle.frame.specs.Sound as sound
+use Rattle.frame_arithmetic.specs.Answers.{Judged, refused, judgedRead, Given, answered, told, givenOf, refusedWith, spectrumOf, residualAfter}
+use Rattle.frame.specs.Frame.{judgedAt, judgedOf, frameOf}
+use Rattle.frame_arithmetic.specs.Sound as sound
 use Rattle.frame_settings.specs.declared.Setting.{Setting}
 use Rattle.frame_settings.specs.declared.Rate.{Rate}
 use Rattle.frame_settings.specs.declared.Rate.the-variants as rate
-use Rattle.frame.specs.declared.Reading.{Reading}
-use Rattle.frame.specs.declared.Answer.{Answer}
-use Rattle.frame.specs.declared.Answer.the-variants as answer
+use Rattle.frame_arithmetic.specs.declared.Reading.{Reading}
+use Rattle.frame_arithmetic.specs.declared.Answer.{Answer}
+use Rattle.frame_arithmetic.specs.declared.Answer.the-variants as answer
 use Rattle.record_bytes.specs.Layout.{RecordEntry}
 use Rattle.record_bytes.specs.Reading.{readRecord}
 use Rattle.record.specs.Answers.{frameAt, entryOf, entryAnswer, framePart}

@@ -3,7 +3,8 @@
 // Inner: `silberlaus` stands over it. It asks nothing.
 ghost use mathlib.Core.Path.{_≡_};
 ghost use lib.ListN.{length};
-ghost use Rattle.frame.specs.Frame.{judgedOf, noFields, refusedWith, givenOf, spectrumOf, residualAfter, told};
+ghost use Rattle.frame.specs.Frame.{judgedOf};
+ghost use Rattle.frame_arithmetic.specs.Answers.{noFields, refusedWith, givenOf, spectrumOf, residualAfter, told};
 ghost use Rattle.silberlaus_frames.specs.Frames.{given, frameGiven, judgedEntry, missing, Bounded};
 use frame::Answer;
 use frame::Fields;

@@ -7,8 +7,10 @@ use mathlib.Core.Logic.{⊎-elim}
 use native.Mathlib.Omega.{arith}
 use lib.ListN.{length}
 use denote.Ref.{now}
-use Rattle.frame.specs.Frame.{judgedOf, refused}
-use Rattle.frame.proofs.WholeFrame.{answers-by, answers-setting, judged-unknown, judged-short, judged-long, judged-known}
+use Rattle.frame.specs.Frame.{judgedOf}
+use Rattle.frame_arithmetic.specs.Answers.{refused}
+use Rattle.frame_arithmetic.proofs.ArithmeticSteps.{answers-by, answers-setting}
+use Rattle.frame.proofs.WholeFrame.{judged-unknown, judged-short, judged-long, judged-known}
 
 rate-setting-requires : tie.Need-rate-setting-requires
 rate-setting-requires c κs = search needs

@@ -5,8 +5,9 @@ use Rattle.frame.proofs.read_sized.Tie as tie
 use mathlib.Core.Path.{refl, sym, ap, _∙_}
 use denote.Ref.{now}
 use Rattle.frame_side.specs.Side.{sideGiven}
-use Rattle.frame.specs.Frame.{judgedRead}
-use Rattle.frame.proofs.WholeFrame.{answers-by, answers-length, answers-cause, judged-spectrum, judged-residual, judged-read, side-refused, frame-rest}
+use Rattle.frame_arithmetic.specs.Answers.{judgedRead}
+use Rattle.frame_arithmetic.proofs.ArithmeticSteps.{answers-by, answers-length, answers-cause}
+use Rattle.frame.proofs.WholeFrame.{judged-spectrum, judged-residual, judged-read, side-refused, frame-rest}
 
 refused-requires : tie.Need-refused-requires
 refused-requires c κs = search needs

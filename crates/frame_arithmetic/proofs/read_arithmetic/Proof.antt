@@ -1,7 +1,7 @@
 -- `frame::read_arithmetic` meets its contract. Assumes nothing.
 use borrow.Author.Needs.{needs}
-use Rattle.frame.proofs.read_arithmetic.Statement.{statement}
-use Rattle.frame.proofs.read_arithmetic.Tie as tie
+use Rattle.frame_arithmetic.proofs.read_arithmetic.Statement.{statement}
+use Rattle.frame_arithmetic.proofs.read_arithmetic.Tie as tie
 use mathlib.Core.Path.{_≡_, refl, sym, ap, _∙_}
 use native.Mathlib.Omega.{arith}
 use denote.Ref.{now}
@@ -11,8 +11,8 @@ use Rattle.frame_spectral.specs.Spectral.{spectralGiven}
 use Rattle.frame_coder.specs.declared.Coder.{Coder}
 use Rattle.frame_tns.specs.declared.FilterRead.{FilterRead}
 use Rattle.frame_spectral.specs.declared.SpectralRead.{SpectralRead}
-use Rattle.frame.proofs.WholeFrame.{tns-tables, start-taken, firstAt, secondAt, first-at, second-at, arithmetic-value, answers-cause, answers-value}
-use Rattle.frame.proofs.WholeFrame.{first-refused, second-refused, third-refused}
+use Rattle.frame_arithmetic.proofs.ArithmeticSteps.{tns-tables, start-taken, firstAt, secondAt, first-at, second-at, arithmetic-value, answers-cause, answers-value}
+use Rattle.frame_arithmetic.proofs.ArithmeticSteps.{first-refused, second-refused, third-refused}
 
 -- the places that several needs look back to
 abbrev entry : tie.After-start → tie.Start

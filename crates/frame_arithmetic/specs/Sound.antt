@@ -1,11 +1,10 @@
--- What the reader's own steps promise each other beside their definitions: bounds of what is read, and cursors that stay inside.
--- No public promise but `Bounded` rests on a line of this. Assumes nothing.
+-- The bounds of an accepted frame, which `frame` promises. Assumes nothing.
 use mathlib.Core.List.{List}
 use Prim.Native.Nat.{_+_, _*_, _≤_}
 use lib.IntN.{ℤ}
 use Rattle.frame_settings.specs.declared.Setting.{Setting}
-use Rattle.frame.specs.declared.Answer.{Answer}
-use Rattle.frame.specs.declared.Answer.the-variants as answer
+use Rattle.frame_arithmetic.specs.declared.Answer.{Answer}
+use Rattle.frame_arithmetic.specs.declared.Answer.the-variants as answer
 use Rattle.frame_pairs.specs.Sound.{Small}
 
 -- an accepted frame: "never above 18 + 7 x last line" symbols, values in range

@@ -1,0 +1,2 @@
+-- What each return of the reading of the arithmetic stream says.
+pub mod ArithmeticSteps
