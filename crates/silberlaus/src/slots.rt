@@ -1,6 +1,6 @@
 // A slot of Annex A.1 under C names: its frame's size, protecting and unprotecting. It stands over `silberlaus_slots`.
 ghost use Rattle.slot_laws.specs.Sizes.{IsFrameSize};
-ghost use Rattle.slot.specs.Protect.{Protects};
+ghost use Rattle.slot_protection.specs.Protect.{Protects};
 ghost use Rattle.slot.specs.Unprotect.{Recordable, Unprotects};
 use silberlaus_slots::SilberlausUnprotected;
 

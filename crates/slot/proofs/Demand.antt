@@ -16,7 +16,7 @@ use Rattle.slot_laws.specs.Semi.{Bytes, semi}
 use Rattle.slot_laws.specs.Words.{signature, received}
 use Rattle.slot_laws.specs.Slot.{Sent, slotOf, wordIn}
 use Rattle.slot_laws.specs.Changes.{changed, changes, changesIn, AtMost}
-use Rattle.slot.specs.Protect.{Lengths, Protects}
+use Rattle.slot_protection.specs.Protect.{Lengths, Protects}
 use Rattle.slot_laws.specs.Corrected.{Corrected}
 use Rattle.slot.specs.Unprotect.{Taken, IsAccepted, Unprotects}
 use Rattle.slot.specs.Demand.{DemandThree}

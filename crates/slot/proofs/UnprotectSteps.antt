@@ -12,7 +12,7 @@ use Rattle.laws.proofs.Tab.{below-take}
 use Rattle.slot_laws.specs.Sizes.{words, hash1, hash2, frameSize}
 use Rattle.slot_laws.specs.Order.{mixed, Data}
 use Rattle.slot_laws.specs.Slot.{slotWith}
-use Rattle.slot.specs.Protect.{Settings, Lengths, Protects}
+use Rattle.slot_protection.specs.Protect.{Settings, Lengths, Protects}
 use Rattle.slot.specs.Unprotect.{Taken, Unprotects}
 use Rattle.slot.specs.Demand.{DemandThree}
 use Rattle.slot_laws.specs.Back.{rolled, requestIn, restIn, Matches, requestOf, frameOf}

@@ -1,4 +1,4 @@
--- What protecting and unprotecting answer (Protect, Unprotect), and demand 3 (Demand), over Annex A.1's encoder in specs/ of `slot_laws`.
-pub mod Protect
+-- What unprotecting answers (Unprotect), and demand 3 (Demand), over Annex A.1's encoder in specs/ of `slot_laws` and what protecting answers,
+-- in specs/ of `slot_protection`.
 pub mod Unprotect
 pub mod Demand

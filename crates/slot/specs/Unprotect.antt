@@ -8,7 +8,7 @@ use Rattle.laws.specs.Tab.{Below}
 use Rattle.slot_laws.specs.Sizes.{InRange}
 use Rattle.slot_laws.specs.Slot.{Sent, slotOf}
 use Rattle.slot_laws.specs.Changes.{changes}
-use Rattle.slot.specs.Protect.{Lengths}
+use Rattle.slot_protection.specs.Protect.{Lengths}
 use Rattle.slot.specs.declared.Reception.{Reception}
 use Rattle.slot.specs.declared.Reception.the-variants.{Accepted, Setting, Length, Beyond, Foreign}
 use Rattle.slot_laws.specs.Corrected.{Corrected, SomeBeyond}

@@ -3,35 +3,15 @@
 // refuses with 1 or 2; `unprotect` answers by document 01's rule, which leaves no choice, and writes the frame on 0 alone; `carry` is
 // demand 3 of the two.
 ghost use mathlib.Core.Path.{_≡_};
-ghost use Prim.Native.Nat.{_<_};
 ghost use lib.ListN.{length};
 ghost use Rattle.slot_laws.specs.Sizes.{InRange, frameSize};
 ghost use Rattle.slot_laws.specs.Order.{Data};
-ghost use Rattle.slot.specs.Protect as protecting;
 ghost use Rattle.slot.specs.Unprotect as unprotecting;
 ghost use Rattle.slot.specs.Demand.{Sends, Carried};
+pub use slot_protection::Protection;
+pub use slot_protection::protect;
 use slot_repair::Outcome;
 pub use slot_sizes::frame_size;
-
-// Whether a slot was made; document 01's 0, 1 and 2.
-pub enum Protection {
-    Protected,
-    Setting,
-    Length,
-}
-
-impl Protection {
-    // Document 01's number.
-    pub fn number(self) -> u8
-        ensures { λ r. ⌜ r ≡ protecting.numberOf self ⌝ }
-    {
-        match self {
-            Protection::Protected => 0,
-            Protection::Setting => 1,
-            Protection::Length => 2,
-        }
-    }
-}
 
 // What unprotecting found: the request and the count of changed semi-octets, or document 01's refusal 1, 2, 3 or 4.
 pub enum Reception {
@@ -55,48 +35,6 @@ impl Reception {
             Reception::Foreign => 4,
         }
     }
-}
-
-// Annex A's slot of a frame and a request.
-pub fn protect(size: usize, mode: u32, request: u32, frame: &[u8], slot: &mut [u8]) -> Protection
-    ensures { λ r. ⌜ protecting.Protects size mode request (now (frame .entry)) (now (slot .entry)) (now (slot .exit)) (protecting.numberOf r) ⌝ }
-{
-    match size {
-        40..=400 => match mode {
-            2..=4 => match request {
-                0..=3 => protect_sized(size, mode as usize, request, frame, slot),
-                _ => Protection::Setting,
-            },
-            _ => Protection::Setting,
-        },
-        _ => Protection::Setting,
-    }
-}
-
-fn protect_sized(
-    size: usize,
-    mode: usize,
-    request: u32,
-    frame: &[u8],
-    slot: &mut [u8],
-) -> Protection
-    requires { ⌜ (InRange size mode) × (request < 4) ⌝ }
-    ensures { λ r. ⌜ protecting.Protects size mode request (now (frame .entry)) (now (slot .entry)) (now (slot .exit)) (protecting.numberOf r) ⌝ }
-{
-    let n = slot_sizes::frame_bytes(size, mode);
-    if frame.len() != n {
-        return Protection::Length;
-    }
-    if slot.len() != size {
-        return Protection::Length;
-    }
-    let e = 2 * slot_sizes::first_hash_size(size)
-        + 2 * slot_sizes::second_hash_size(size, mode)
-        + 2 * n;
-    let mut info = [0u8; 800];
-    slot_ordering::arrange(size, mode, request, frame, &mut info[..e]);
-    slot_interleaving::write_slot(size, mode, &info[..e], slot);
-    Protection::Protected
 }
 
 // What was received, by document 01's rule, the mode told.

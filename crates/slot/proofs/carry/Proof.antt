@@ -1,7 +1,7 @@
 -- `slot::carry` meets its contract. Assumes nothing.
 use Rattle.slot.proofs.UnprotectSteps.{carried}
 use Rattle.slot.specs.Unprotect.{numberOf, requestOf, countOf}
-use Rattle.slot.specs.Protect.{numberOf as protectionNumber}
+use Rattle.slot_protection.specs.Protect.{numberOf as protectionNumber}
 use borrow.Author.Needs.{needs}
 use Rattle.slot.proofs.carry.Statement.{statement}
 use Rattle.slot.proofs.carry.Tie as tie

@@ -7,8 +7,8 @@ use lib.ListN.{length}
 use Rattle.laws.specs.Tab.{Below}
 use Rattle.slot_laws.specs.Sizes.{InRange, frameSize}
 use Rattle.slot_laws.specs.Slot.{slotOf}
-use Rattle.slot.specs.declared.Protection.{Protection}
-use Rattle.slot.specs.declared.Protection.the-variants.{Protected, Setting, Length}
+use Rattle.slot_protection.specs.declared.Protection.{Protection}
+use Rattle.slot_protection.specs.declared.Protection.the-variants.{Protected, Setting, Length}
 
 -- the settings: slot size, mode and request
 pub record Settings (size mode q : ℕ) : Type 0 where

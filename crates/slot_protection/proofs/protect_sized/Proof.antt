@@ -8,8 +8,8 @@ use native.Mathlib.Omega.{arith}
 use Prim.Native.Nat.{_+_, _*_}
 use mathlib.Core.Path.{sym, _∙_}
 use borrow.Author.Needs.{needs}
-use Rattle.slot.proofs.protect_sized.Statement.{statement}
-use Rattle.slot.proofs.protect_sized.Tie as tie
+use Rattle.slot_protection.proofs.protect_sized.Statement.{statement}
+use Rattle.slot_protection.proofs.protect_sized.Tie as tie
 
 frame-bytes-requires : tie.Need-frame-bytes-requires
 frame-bytes-requires c κs = search needs

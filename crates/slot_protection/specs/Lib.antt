@@ -1,0 +1,2 @@
+-- What protecting answers.
+pub mod Protect

@@ -1,0 +1,69 @@
+// A frame protected in a slot (A.1.5): the data put in order, and the words to their places. `protect` is total, leaves exactly the slot that
+// specs/ of `slot_laws` makes, or refuses with 1 or 2 (specs/Protect.antt).
+// Inner: `slot` stands over it and hands `protect` on to callers. It asks nothing.
+ghost use mathlib.Core.Path.{_≡_};
+ghost use Prim.Native.Nat.{_<_};
+ghost use Rattle.slot_laws.specs.Sizes.{InRange};
+ghost use Rattle.slot_protection.specs.Protect.{numberOf, Protects};
+
+// Whether a slot was made; document 01's 0, 1 and 2.
+pub enum Protection {
+    Protected,
+    Setting,
+    Length,
+}
+
+impl Protection {
+    // Document 01's number.
+    pub fn number(self) -> u8
+        ensures { λ r. ⌜ r ≡ numberOf self ⌝ }
+    {
+        match self {
+            Protection::Protected => 0,
+            Protection::Setting => 1,
+            Protection::Length => 2,
+        }
+    }
+}
+
+// Annex A's slot of a frame and a request.
+pub fn protect(size: usize, mode: u32, request: u32, frame: &[u8], slot: &mut [u8]) -> Protection
+    ensures { λ r. ⌜ Protects size mode request (now (frame .entry)) (now (slot .entry)) (now (slot .exit)) (numberOf r) ⌝ }
+{
+    match size {
+        40..=400 => match mode {
+            2..=4 => match request {
+                0..=3 => protect_sized(size, mode as usize, request, frame, slot),
+                _ => Protection::Setting,
+            },
+            _ => Protection::Setting,
+        },
+        _ => Protection::Setting,
+    }
+}
+
+fn protect_sized(
+    size: usize,
+    mode: usize,
+    request: u32,
+    frame: &[u8],
+    slot: &mut [u8],
+) -> Protection
+    requires { ⌜ (InRange size mode) × (request < 4) ⌝ }
+    ensures { λ r. ⌜ Protects size mode request (now (frame .entry)) (now (slot .entry)) (now (slot .exit)) (numberOf r) ⌝ }
+{
+    let n = slot_sizes::frame_bytes(size, mode);
+    if frame.len() != n {
+        return Protection::Length;
+    }
+    if slot.len() != size {
+        return Protection::Length;
+    }
+    let e = 2 * slot_sizes::first_hash_size(size)
+        + 2 * slot_sizes::second_hash_size(size, mode)
+        + 2 * n;
+    let mut info = [0u8; 800];
+    slot_ordering::arrange(size, mode, request, frame, &mut info[..e]);
+    slot_interleaving::write_slot(size, mode, &info[..e], slot);
+    Protection::Protected
+}
