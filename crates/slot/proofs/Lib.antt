@@ -1,4 +1,4 @@
--- The rule for unprotecting, demand 3, and what the code asks at its returns.
+-- The rule for unprotecting, demand 3, the bounds of what is accepted, and what the code asks at its returns.
 pub mod Rule
 pub mod Demand
 pub mod Bounds
