@@ -1,4 +1,5 @@
--- The arithmetic stream of a frame (5.4.2.7): what each return of `read_arithmetic` says, and the answer with both buffers as a judgement asks.
+-- The arithmetic stream of a frame (5.4.2.7): what each return of `read_arithmetic` says, and the answer with both buffers as a judgement
+-- asks.
 -- Assumes nothing.
 use mathlib.Core.Path.{_≡_, refl, sym, ap, _∙_}
 use mathlib.Core.List.{List}

@@ -1,4 +1,5 @@
--- The table of rates: a rate that the code names is a row of it, and one computed test over the rows gives what the reader uses of a setting.
+-- The table of rates: a rate that the code names is a row of it, and one computed test over the rows gives what the reader uses of a
+-- setting.
 -- Assumes nothing.
 use mathlib.Core.Path.{_≡_, refl, sym, ap, _∙_}
 use mathlib.Core.Bool.{Bool, true, false, cond}

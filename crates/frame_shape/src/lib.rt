@@ -1,4 +1,5 @@
-// The shape of the side information (5.4.2.3): 38 bits, field by field by let-else. Each function equals its definition in specs/Shape.antt.
+// The shape of the side information (5.4.2.3): 38 bits, field by field by let-else. Each function equals its definition in
+// specs/Shape.antt.
 // Inner: `frame_side` stands over it. It asks for a frame of 20 to 400 bytes with the shape inside.
 ghost use mathlib.Core.Path.{_≡_};
 ghost use Prim.Native.Nat.{_+_, _≤_, _<_};

@@ -1,7 +1,7 @@
 // The spectral data of a frame and what follows them (5.4.2.7, 5.4.2.8): the pairs, the bits left, and after the last check both lent
 // buffers. The function equals its definition in specs/Spectral.antt.
-// Inner: `frame_arithmetic` stands over it. It asks for a known setting, a frame of 20 to 400 bytes, buffers of its line count, and cursors of the
-// steps before.
+// Inner: `frame_arithmetic` stands over it. It asks for a known setting, a frame of 20 to 400 bytes, buffers of its line count, and cursors
+// of the steps before.
 ghost use mathlib.Core.Path.{_≡_};
 ghost use Prim.Native.Nat.{_≤_, _<_, _*_, _/_};
 ghost use lib.ListN.{length};

@@ -1,5 +1,6 @@
 // The data of a slot in order (A.16 to A.37): semi-octets of the frame, heading, swap.
-// Inner: `slot_delivery`, `slot_protection` and `slot` stand over it. It asks for a size, a mode and a request in range and for buffers of their length.
+// Inner: `slot_delivery`, `slot_protection` and `slot` stand over it. It asks for a size, a mode and a request in range and for buffers of
+// their length.
 ghost use mathlib.Core.Path.{_≡_};
 ghost use Prim.Native.Nat.{_+_, _-_, _*_, _^_, _≤_, _<_};
 ghost use lib.ListN.{length, drop};
