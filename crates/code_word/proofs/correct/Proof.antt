@@ -7,19 +7,10 @@ use Rattle.code_word_laws.proofs.Promises.{told-no, told-yes, not-corrected-fit
 use Rattle.code_word.proofs.correct.Statement.{statement}
 use Rattle.code_word.proofs.correct.Tie as tie
 
-fits-requires : tie.Need-fits-requires
-fits-requires c κs = search needs
-
 returns : tie.Need-returns
 returns c =
     let a = c .before .before .before .args in
     not-corrected-fitting (a .mode) (a .word .now) (told-no _ (c .before .fits2 .result) (c .before .fits2 .ensures) (c .if1 .taken))
-
-semi-octets-requires : tie.Need-semi-octets-requires
-semi-octets-requires c κs = search needs
-
-same-length : tie.Need-same-length
-same-length c = search needs
 
 returns-2 : tie.Need-returns-2
 returns-2 c =
@@ -36,18 +27,12 @@ cast-most c =
     let f : Fits (c .before .before .before .before .before .before .args .mode) (length (c .before .before .before .before .before .before .args .word .now)) = told-yes _ (c .before .before .before .before .fits2 .result) (c .before .before .before .before .fits2 .ensures) (c .before .before .before .if1 .left) in
     record { fits = omega (arith, f .mode-to) }
 
-table-requires : tie.Need-table-requires
-table-requires c κs = search needs
-
 mend-requires : tie.Need-mend-requires
 mend-requires c κs =
     let d = c .before .before .before in
     let a = d .before .before .before .before .before .before .args in
     let f : Fits (a .mode) (length (a .word .now)) = told-yes _ (d .before .before .before .before .fits2 .result) (d .before .before .before .before .fits2 .ensures) (d .before .before .before .if1 .left) in
     (c .before .before .table .ensures, omega (arith, f .mode-from), omega (arith, f .mode-to), f .most, told-yes _ (d .before .semi-octets .result) (d .before .semi-octets .ensures) (d .if2 .left))
-
-same-length-2 : tie.Need-same-length-2
-same-length-2 c = search needs
 
 returns-3 : tie.Need-returns-3
 returns-3 c =
@@ -56,9 +41,6 @@ returns-3 c =
     let a = d .before .before .before .before .before .before .args in
     let f : Fits (a .mode) (length (a .word .now)) = told-yes _ (d .before .before .before .before .fits2 .result) (d .before .before .before .before .fits2 .ensures) (d .before .before .before .if1 .left) in
     is-none (a .mode) (a .word .now) (m .last .1 .0) (m .result) f (told-yes _ (d .before .semi-octets .result) (d .before .semi-octets .ensures) (d .if2 .left)) (m .ensures) (c .if3 .taken)
-
-same-length-3 : tie.Need-same-length-3
-same-length-3 c = search needs
 
 returns-4 : tie.Need-returns-4
 returns-4 c =
@@ -72,16 +54,5 @@ pub correct-spec : {M : Type 1} → statement M
 correct-spec =
     tie.close
     (tie.spec
-    fits-requires
-    returns
-    semi-octets-requires
-    same-length
-    returns-2
-    sub-most
-    cast-most
-    table-requires
-    mend-requires
-    same-length-2
-    returns-3
-    same-length-3
-    returns-4)
+    (λ c κs. search needs) returns (λ c κs. search needs) (λ c. search needs) returns-2 sub-most cast-most
+    (λ c κs. search needs) mend-requires (λ c. search needs) returns-3 (λ c. search needs) returns-4)

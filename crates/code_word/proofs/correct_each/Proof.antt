@@ -20,9 +20,6 @@ rem-over c =
     let l = c .if1 .left in
     omega arith
 
-fits-requires : tie.Need-fits-requires
-fits-requires c κs = search needs
-
 returns-2 : tie.Need-returns-2
 returns-2 c =
     let v = c .before in
@@ -43,12 +40,6 @@ returns-3 c =
     let l = v .before .if1 .left in
     none-fitting-longer (a .mode) (a .words .now) (a .counts .now) (omega arith) (told-no _ (g .fits-longer .result) (g .fits-longer .ensures) (c .if3 .taken))
 
-semi-octets-requires : tie.Need-semi-octets-requires
-semi-octets-requires c κs = search needs
-
-same-length : tie.Need-same-length
-same-length c = search needs
-
 returns-4 : tie.Need-returns-4
 returns-4 c =
     let g = c .before .before .before .before in
@@ -67,9 +58,6 @@ cast-most c =
     let v = g .before .before in
     record { fits = omega (arith, told-yes _ (v .fits2 .result) (v .fits2 .ensures) (g .before .if2 .left) .mode-to) }
 
-table-requires : tie.Need-table-requires
-table-requires c κs = search needs
-
 mend-each-requires : tie.Need-mend-each-requires
 mend-each-requires c κs =
     let d = c .before .before .before .before in
@@ -84,12 +72,6 @@ mend-each-requires c κs =
       dealt-out (a .mode) (a .words .now) (a .counts .now) (omega arith) f (told-yes _ (g .fits-longer .result) (g .fits-longer .ensures) (d .before .before .before .if3 .left)),
       told-yes _ (d .before .semi-octets .result) (d .before .semi-octets .ensures) (d .if4 .left),
     )
-
-same-length-2 : tie.Need-same-length-2
-same-length-2 c = search needs
-
-same-length-3 : tie.Need-same-length-3
-same-length-3 c = search needs
 
 returns-5 : tie.Need-returns-5
 returns-5 c =
@@ -107,20 +89,6 @@ pub correct-each-spec : {M : Type 1} → statement M
 correct-each-spec =
     tie.close
     (tie.spec
-    returns
-    div-long
-    rem-over
-    fits-requires
-    returns-2
-    fits-longer-requires
-    returns-3
-    semi-octets-requires
-    same-length
-    returns-4
-    sub-most
-    cast-most
-    table-requires
-    mend-each-requires
-    same-length-2
-    same-length-3
-    returns-5)
+    returns div-long rem-over (λ c κs. search needs) returns-2 fits-longer-requires returns-3
+    (λ c κs. search needs) (λ c. search needs) returns-4 sub-most cast-most (λ c κs. search needs)
+    mend-each-requires (λ c. search needs) (λ c. search needs) returns-5)

@@ -9,16 +9,10 @@ use Rattle.code_word_laws.proofs.Encoding as encoding
 use Rattle.code_word.proofs.make.Statement.{statement}
 use Rattle.code_word.proofs.make.Tie as tie
 
-fits-requires : tie.Need-fits-requires
-fits-requires c κs = search needs
-
 returns : tie.Need-returns
 returns c =
     let a = c .before .before .before .args in
     not-made-fitting (a .mode) (a .word .now) (told-no _ (c .before .fits2 .result) (c .before .fits2 .ensures) (c .if1 .taken))
-
-mul-n : tie.Need-mul-n
-mul-n c = search needs
 
 sub-n : tie.Need-sub-n
 sub-n c =
@@ -32,9 +26,6 @@ semi-octets-requires c κs =
     let a = e .before .before .before .args in
     let f : Fits (a .mode) (length (a .word .now)) = told-yes _ (e .before .fits2 .result) (e .before .fits2 .ensures) (e .if1 .left) in
     omega (arith, f .checks)
-
-same-length : tie.Need-same-length
-same-length c = search needs
 
 returns-2 : tie.Need-returns-2
 returns-2 c =
@@ -64,9 +55,6 @@ pour-requires c κs =
     let f : Fits (a .mode) (length (a .word .now)) = told-yes _ (e .before .fits2 .result) (e .before .fits2 .ensures) (e .if1 .left) in
     omega (arith, f .checks)
 
-same-length-2 : tie.Need-same-length-2
-same-length-2 c = search needs
-
 returns-3 : tie.Need-returns-3
 returns-3 c =
     let o = c .before .before in
@@ -84,15 +72,5 @@ pub make-spec : {M : Type 1} → statement M
 make-spec =
     tie.close
     (tie.spec
-    fits-requires
-    returns
-    mul-n
-    sub-n
-    semi-octets-requires
-    same-length
-    returns-2
-    rows-requires
-    divide-requires
-    pour-requires
-    same-length-2
-    returns-3)
+    (λ c κs. search needs) returns (λ c. search needs) sub-n semi-octets-requires (λ c. search needs)
+    returns-2 rows-requires divide-requires pour-requires (λ c. search needs) returns-3)

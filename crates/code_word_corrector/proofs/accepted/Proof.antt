@@ -10,16 +10,13 @@ returns c =
     let a = c .before .before .args in
     accepts-not (a .most) (a .count) (a .word .now) (c .if1 .taken)
 
-spectrum-requires : tie.Need-spectrum-requires
-spectrum-requires c κs = search needs
-
-clear-requires : tie.Need-clear-requires
-clear-requires c κs = search needs
-
 returns-2 : tie.Need-returns-2
 returns-2 c =
     let a = c .before .before .before .before in
     accepts-clear (a .args .most) (a .args .count) (a .args .word .now) (c .before .spectrum .result) (a .pre .2) (omega arith) (c .before .spectrum .ensures) (c .clear .ensures)
 
 pub accepted-spec : {M : Type 1} → statement M
-accepted-spec = tie.close (tie.spec returns spectrum-requires clear-requires returns-2)
+accepted-spec =
+    tie.close
+    (tie.spec
+    returns (λ c κs. search needs) (λ c κs. search needs) returns-2)

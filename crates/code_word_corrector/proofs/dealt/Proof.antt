@@ -8,9 +8,6 @@ use Rattle.laws.specs.Tab.{pick}
 use Rattle.code_word_corrector.proofs.dealt.Statement.{statement}
 use Rattle.code_word_corrector.proofs.dealt.Tie as tie
 
-add-result : tie.Need-add-result
-add-result c = search needs
-
 returns : tie.Need-returns
 returns c =
     let a = c .before .args in
@@ -22,4 +19,7 @@ returns-2 c =
     sym (ap (λ (t : Bool). pick t (a .long + 1) (a .long)) (le-ltb (a .i) (a .over) (c .if1 .left)))
 
 pub dealt-spec : {M : Type 1} → statement M
-dealt-spec = tie.close (tie.spec add-result returns returns-2)
+dealt-spec =
+    tie.close
+    (tie.spec
+    (λ c. search needs) returns returns-2)

@@ -14,15 +14,6 @@ Inv-loop t r1 r2 r3 s1 s2 u e₀ a₀ b₀ c₀ n₀ e a b c n = (n ≤ 12) × (
 abbrev μ-loop : tie.MeasureT-loop
 μ-loop t r1 r2 r3 s1 s2 u e₀ a₀ b₀ c₀ n₀ e a b c n = n
 
-row-requires : tie.Need-row-requires Inv-loop μ-loop
-row-requires c κs = search needs
-
-row-requires-2 : tie.Need-row-requires-2 Inv-loop μ-loop
-row-requires-2 c κs = search needs
-
-row-requires-3 : tie.Need-row-requires-3 Inv-loop μ-loop
-row-requires-3 c κs = search needs
-
 loop-holds : tie.Need-loop-holds Inv-loop μ-loop
 loop-holds c =
     let a = c .before .before .before .args in
@@ -40,19 +31,10 @@ tripled-requires c κs =
     let p = c .before .before .before .before .before .pre in
     (p .0, p .2, h .2, p .3, h .3, p .1, h .1)
 
-sub-row : tie.Need-sub-row Inv-loop μ-loop
-sub-row c = search needs
-
 row-requires-4 : tie.Need-row-requires-4 Inv-loop μ-loop
 row-requires-4 c κs =
     let p = c .before .before .before .before .before .before .pre in
     (p .0, omega (arith, c .before .before .loop .inv .0), c .tripled .ensures .1)
-
-sub-n : tie.Need-sub-n Inv-loop μ-loop
-sub-n c = search needs
-
-loop-less : tie.Need-loop-less Inv-loop μ-loop
-loop-less c = search needs
 
 loop-again : tie.Need-loop-again Inv-loop μ-loop
 loop-again c =
@@ -77,16 +59,6 @@ pub errors-spec : {M : Type 1} → statement M
 errors-spec =
     tie.close
     (tie.spec
-    Inv-loop
-    μ-loop
-    row-requires
-    row-requires-2
-    row-requires-3
-    loop-holds
-    tripled-requires
-    sub-row
-    row-requires-4
-    sub-n
-    loop-less
-    loop-again
+    Inv-loop μ-loop (λ c κs. search needs) (λ c κs. search needs) (λ c κs. search needs) loop-holds
+    tripled-requires (λ c. search needs) row-requires-4 (λ c. search needs) (λ c. search needs) loop-again
     returns)

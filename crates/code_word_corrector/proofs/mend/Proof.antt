@@ -10,35 +10,14 @@ use Rattle.code_word_laws.proofs.Mend.{mended-length, mended-semi-octets, mende
 use Rattle.code_word_corrector.proofs.mend.Statement.{statement}
 use Rattle.code_word_corrector.proofs.mend.Tie as tie
 
-spectrum-requires : tie.Need-spectrum-requires
-spectrum-requires c κs = search needs
-
-clear-requires : tie.Need-clear-requires
-clear-requires c κs = search needs
-
-same-length : tie.Need-same-length
-same-length c = search needs
-
 returns : tie.Need-returns
 returns c =
     let a = c .before .before .before .before .before in
     let p = a .pre in
     mended-clean (a .args .most) (a .args .word .now) (p .2) (p .3) (p .4) (c .before .before .spectrum .result) (c .before .before .spectrum .ensures) (c .before .clear .ensures .holds (c .if1 .taken))
 
-mend-one-requires : tie.Need-mend-one-requires
-mend-one-requires c κs = search needs
-
-same-length-2 : tie.Need-same-length-2
-same-length-2 c = search needs
-
 returns-2 : tie.Need-returns-2
 returns-2 c = c .before .before .before .mend-one .ensures .one (c .if2 .taken)
-
-guess-requires : tie.Need-guess-requires
-guess-requires c κs = search needs
-
-take-off-requires : tie.Need-take-off-requires
-take-off-requires c κs = search needs
 
 accepted-requires : tie.Need-accepted-requires
 accepted-requires c κs =
@@ -50,9 +29,6 @@ accepted-requires c κs =
     let e : o .last .0 ≡ mended (a .args .word .now) (g .guess .result) = o .ensures .0 ∙ ap (λ (l : List ℕ). mended l (g .guess .result)) (m .mend-one .ensures .kept (g .before .if2 .left)) in
     (p .0, p .1, p .2, rw e (omega (arith, mended-length (a .args .word .now) (g .guess .result))), rw e (mended-semi-octets (a .args .word .now) _ (p .4)))
 
-same-length-3 : tie.Need-same-length-3
-same-length-3 c = search needs
-
 returns-3 : tie.Need-returns-3
 returns-3 c =
     let o = c .before .before .before .before .before .take-off in
@@ -63,15 +39,6 @@ returns-3 c =
     let k = m .mend-one .ensures .kept (g .before .if2 .left) in
     mend-accepted (a .args .most) (a .args .word .now) (p .2) (p .3) (p .4) (g .guess .result) (o .result) (o .last .0)
     (o .ensures .0 ∙ ap (λ (l : List ℕ). mended l (g .guess .result)) k) (o .ensures .1 ∙ ap (λ (l : List ℕ). apart l (o .last .0)) k) (c .before .accepted .ensures) (c .if3 .taken)
-
-take-off-requires-2 : tie.Need-take-off-requires-2
-take-off-requires-2 c κs = search needs
-
-add-result : tie.Need-add-result
-add-result c = search needs
-
-same-length-4 : tie.Need-same-length-4
-same-length-4 c = search needs
 
 returns-4 : tie.Need-returns-4
 returns-4 c =
@@ -92,19 +59,6 @@ pub mend-spec : {M : Type 1} → statement M
 mend-spec =
     tie.close
     (tie.spec
-    spectrum-requires
-    clear-requires
-    same-length
-    returns
-    mend-one-requires
-    same-length-2
-    returns-2
-    guess-requires
-    take-off-requires
-    accepted-requires
-    same-length-3
-    returns-3
-    take-off-requires-2
-    add-result
-    same-length-4
-    returns-4)
+    (λ c κs. search needs) (λ c κs. search needs) (λ c. search needs) returns (λ c κs. search needs)
+    (λ c. search needs) returns-2 (λ c κs. search needs) (λ c κs. search needs) accepted-requires
+    (λ c. search needs) returns-3 (λ c κs. search needs) (λ c. search needs) (λ c. search needs) returns-4)

@@ -40,12 +40,6 @@ dealt-requires c κs = dealt-short _ _ _ _ (c .before .before .before .before .p
 add-end : tie.Need-add-end Inv-loop μ-loop
 add-end c = record { fits = omega (arith, inside c) }
 
-sub-mend : tie.Need-sub-mend Inv-loop μ-loop
-sub-mend c = search needs
-
-part-mend-start : tie.Need-part-mend-start Inv-loop μ-loop
-part-mend-start c = search needs
-
 part-mend-end : tie.Need-part-mend-end Inv-loop μ-loop
 part-mend-end c = omega (arith, inside c)
 
@@ -69,9 +63,6 @@ slice-write-counts : tie.Need-slice-write-counts Inv-loop μ-loop
 slice-write-counts c =
     let h = c .before .before .before .before .before .before in
     omega (arith, h .loop .inv .1 .as-many)
-
-add-i : tie.Need-add-i Inv-loop μ-loop
-add-i c = search needs
 
 loop-less : tie.Need-loop-less Inv-loop μ-loop
 loop-less c =
@@ -107,19 +98,6 @@ pub mend-each-spec : {M : Type 1} → statement M
 mend-each-spec =
     tie.close
     (tie.spec
-    Inv-loop
-    μ-loop
-    loop-holds
-    dealt-requires
-    add-end
-    sub-mend
-    part-mend-start
-    part-mend-end
-    mend-requires
-    slice-write-counts
-    add-i
-    loop-less
-    loop-again
-    same-length
-    same-length-2
+    Inv-loop μ-loop loop-holds dealt-requires add-end (λ c. search needs) (λ c. search needs) part-mend-end
+    mend-requires slice-write-counts (λ c. search needs) loop-less loop-again same-length same-length-2
     returns)

@@ -6,29 +6,11 @@ use Rattle.code_word_laws.proofs.Single.{mended-one, tried-none, tried-one}
 use Rattle.code_word_corrector.proofs.mend_one.Statement.{statement}
 use Rattle.code_word_corrector.proofs.mend_one.Tie as tie
 
-cast-s1 : tie.Need-cast-s1
-cast-s1 c = search needs
-
-cast-s2 : tie.Need-cast-s2
-cast-s2 c = search needs
-
-inverted-requires : tie.Need-inverted-requires
-inverted-requires c κs = search needs
-
-times-requires : tie.Need-times-requires
-times-requires c κs = search needs
-
 times-requires-2 : tie.Need-times-requires-2
 times-requires-2 c κs = (c .before .before .before .pre .0, c .before .inverted .ensures .1, rw (c .times .ensures) (product-lt _ _))
 
 returns : tie.Need-returns
 returns c = tried-none _ _
-
-inverted-requires-2 : tie.Need-inverted-requires-2
-inverted-requires-2 c κs = search needs
-
-times-requires-3 : tie.Need-times-requires-3
-times-requires-3 c κs = search needs
 
 logarithm-requires : tie.Need-logarithm-requires
 logarithm-requires c κs = rw (c .times3 .ensures) (product-lt _ _)
@@ -40,18 +22,6 @@ row-requires : tie.Need-row-requires
 row-requires c κs =
     let d = c .before .before .before .before .before in
     (d .before .before .before .before .pre .0, c .before .logarithm .ensures .0, rw (d .times2 .ensures) (product-lt _ _))
-
-clear-requires : tie.Need-clear-requires
-clear-requires c κs = search needs
-
-slice-read-word : tie.Need-slice-read-word
-slice-read-word c = search needs
-
-slice-write-word : tie.Need-slice-write-word
-slice-write-word c = search needs
-
-same-length : tie.Need-same-length
-same-length c = search needs
 
 returns-3 : tie.Need-returns-3
 returns-3 c =
@@ -71,20 +41,6 @@ pub mend-one-spec : {M : Type 1} → statement M
 mend-one-spec =
     tie.close
     (tie.spec
-    cast-s1
-    cast-s2
-    inverted-requires
-    times-requires
-    times-requires-2
-    returns
-    inverted-requires-2
-    times-requires-3
-    logarithm-requires
-    returns-2
-    row-requires
-    clear-requires
-    slice-read-word
-    slice-write-word
-    same-length
-    returns-3
-    returns-4)
+    (λ c. search needs) (λ c. search needs) (λ c κs. search needs) (λ c κs. search needs) times-requires-2
+    returns (λ c κs. search needs) (λ c κs. search needs) logarithm-requires returns-2 row-requires
+    (λ c κs. search needs) (λ c. search needs) (λ c. search needs) (λ c. search needs) returns-3 returns-4)

@@ -18,20 +18,11 @@ abbrev μ-loop : tie.MeasureT-loop
 loop-holds : tie.Need-loop-holds Inv-loop μ-loop
 loop-holds c = let a = c .before .args in (search needs, search needs, encoding.register-first (a .rows .now) (a .word .now))
 
-sub-i : tie.Need-sub-i Inv-loop μ-loop
-sub-i c = search needs
-
-shared-slice-read-shift : tie.Need-shared-slice-read-shift Inv-loop μ-loop
-shared-slice-read-shift c = search needs
-
 shift-requires : tie.Need-shift-requires Inv-loop μ-loop
 shift-requires c κs =
     let h = c .before .before in
     let s = h .before .before in
     encoding.among (s .args .word .now) (s .args .n) (h .loop .i - 1) (omega arith) (s .pre .1)
-
-loop-less : tie.Need-loop-less Inv-loop μ-loop
-loop-less c = search needs
 
 loop-again : tie.Need-loop-again Inv-loop μ-loop
 loop-again c =
@@ -53,12 +44,5 @@ pub divide-spec : {M : Type 1} → statement M
 divide-spec =
     tie.close
     (tie.spec
-    Inv-loop
-    μ-loop
-    loop-holds
-    sub-i
-    shared-slice-read-shift
-    shift-requires
-    loop-less
-    loop-again
-    returns)
+    Inv-loop μ-loop loop-holds (λ c. search needs) (λ c. search needs) shift-requires (λ c. search needs)
+    loop-again returns)

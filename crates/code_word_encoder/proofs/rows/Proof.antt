@@ -20,4 +20,7 @@ unfolding feedback rowsFrom row gathered rooted multiplied scaled added product 
 returns-3 c = let e : c .before .args .mode ≡ 4 = omega arith in rw e refl
 
 pub rows-spec : {M : Type 1} → statement M
-rows-spec = tie.close (tie.spec returns returns-2 returns-3)
+rows-spec =
+    tie.close
+    (tie.spec
+    returns returns-2 returns-3)

@@ -6,9 +6,6 @@ use Rattle.code_word_laws.proofs.Turns.{clears, pow-pos}
 use Rattle.code_word_locator.proofs.clear.Statement.{statement}
 use Rattle.code_word_locator.proofs.clear.Tie as tie
 
-window-requires : tie.Need-window-requires
-window-requires c κs = search needs
-
 rem-result : tie.Need-rem-result
 rem-result c = let e = c .window .ensures in omega (arith, pow-pos (c .before .args .most + c .before .args .most))
 
@@ -16,4 +13,7 @@ returns : tie.Need-returns
 returns c = clears (c .before .args .most + c .before .args .most) (c .before .args .s) (c .window .result) (c .window .ensures)
 
 pub clear-spec : {M : Type 1} → statement M
-clear-spec = tie.close (tie.spec window-requires rem-result returns)
+clear-spec =
+    tie.close
+    (tie.spec
+    (λ c κs. search needs) rem-result returns)

@@ -10,12 +10,6 @@ use Rattle.code_word_laws.proofs.Levels.{inverses, inverses-at}
 use Rattle.code_word_locator.proofs.inverted.Statement.{statement}
 use Rattle.code_word_locator.proofs.inverted.Tie as tie
 
-wide-requires : tie.Need-wide-requires
-wide-requires c κs = search needs
-
-array-read-result : tie.Need-array-read-result
-array-read-result c = search needs
-
 returns : tie.Need-returns
 unfolding inverses
 returns c =
@@ -23,4 +17,7 @@ returns c =
     (e, rw e (inverse-lt (c .before .args .a)))
 
 pub inverted-spec : {M : Type 1} → statement M
-inverted-spec = tie.close (tie.spec wide-requires array-read-result returns)
+inverted-spec =
+    tie.close
+    (tie.spec
+    (λ c κs. search needs) (λ c. search needs) returns)

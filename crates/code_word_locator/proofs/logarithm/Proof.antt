@@ -9,15 +9,6 @@ use Rattle.code_word_laws.proofs.Levels.{logarithms, logarithms-at, logarithms-
 use Rattle.code_word_locator.proofs.logarithm.Statement.{statement}
 use Rattle.code_word_locator.proofs.logarithm.Tie as tie
 
-wide-requires : tie.Need-wide-requires
-wide-requires c κs = search needs
-
-array-read-wide : tie.Need-array-read-wide
-array-read-wide c = search needs
-
-wide-requires-2 : tie.Need-wide-requires-2
-wide-requires-2 c κs = search needs
-
 returns : tie.Need-returns
 unfolding logarithms
 returns c =
@@ -26,4 +17,7 @@ returns c =
     (rw e (logarithms-lt a (omega arith)), λ n. ap (λ (i : ℕ). power 2 i) e ∙ logarithms-at a (omega arith) n)
 
 pub logarithm-spec : {M : Type 1} → statement M
-logarithm-spec = tie.close (tie.spec wide-requires array-read-wide wide-requires-2 returns)
+logarithm-spec =
+    tie.close
+    (tie.spec
+    (λ c κs. search needs) (λ c. search needs) (λ c κs. search needs) returns)

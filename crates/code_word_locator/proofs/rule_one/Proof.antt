@@ -8,15 +8,6 @@ use Rattle.code_word_laws.proofs.Packed.{nibble-lt}
 use Rattle.code_word_locator.proofs.rule_one.Statement.{statement}
 use Rattle.code_word_locator.proofs.rule_one.Tie as tie
 
-cast-s1 : tie.Need-cast-s1
-cast-s1 c = search needs
-
-cast-s2 : tie.Need-cast-s2
-cast-s2 c = search needs
-
-cast-s3 : tie.Need-cast-s3
-cast-s3 c = search needs
-
 inverted-requires : tie.Need-inverted-requires
 inverted-requires c κs = nibble-lt 1 (c .args .s)
 
@@ -43,11 +34,5 @@ pub rule-one-spec : {M : Type 1} → statement M
 rule-one-spec =
     tie.close
     (tie.spec
-    cast-s1
-    cast-s2
-    cast-s3
-    inverted-requires
-    times-requires
-    times-requires-2
-    returns
-    returns-2)
+    (λ c. search needs) (λ c. search needs) (λ c. search needs) inverted-requires times-requires
+    times-requires-2 returns returns-2)

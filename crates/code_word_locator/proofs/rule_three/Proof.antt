@@ -5,24 +5,6 @@ use Rattle.code_word_laws.proofs.Packed.{nibble-lt}
 use Rattle.code_word_locator.proofs.rule_three.Statement.{statement}
 use Rattle.code_word_locator.proofs.rule_three.Tie as tie
 
-cast-s1 : tie.Need-cast-s1
-cast-s1 c = search needs
-
-cast-s2 : tie.Need-cast-s2
-cast-s2 c = search needs
-
-cast-s3 : tie.Need-cast-s3
-cast-s3 c = search needs
-
-cast-s4 : tie.Need-cast-s4
-cast-s4 c = search needs
-
-cast-s5 : tie.Need-cast-s5
-cast-s5 c = search needs
-
-cast-s6 : tie.Need-cast-s6
-cast-s6 c = search needs
-
 crossed-requires : tie.Need-crossed-requires
 crossed-requires c κs =
     let s = c .args .s in
@@ -93,23 +75,7 @@ pub rule-three-spec : {M : Type 1} → statement M
 rule-three-spec =
     tie.close
     (tie.spec
-    cast-s1
-    cast-s2
-    cast-s3
-    cast-s4
-    cast-s5
-    cast-s6
-    crossed-requires
-    crossed-requires-2
-    crossed-requires-3
-    crossed-requires-4
-    crossed-requires-5
-    crossed-requires-6
-    tripled-requires
-    tripled-requires-2
-    tripled-requires-3
-    inverted-requires
-    times-requires
-    times-requires-2
-    times-requires-3
-    returns)
+    (λ c. search needs) (λ c. search needs) (λ c. search needs) (λ c. search needs) (λ c. search needs)
+    (λ c. search needs) crossed-requires crossed-requires-2 crossed-requires-3 crossed-requires-4
+    crossed-requires-5 crossed-requires-6 tripled-requires tripled-requires-2 tripled-requires-3
+    inverted-requires times-requires times-requires-2 times-requires-3 returns)

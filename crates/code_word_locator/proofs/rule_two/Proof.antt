@@ -5,18 +5,6 @@ use Rattle.code_word_laws.proofs.Packed.{nibble-lt}
 use Rattle.code_word_locator.proofs.rule_two.Statement.{statement}
 use Rattle.code_word_locator.proofs.rule_two.Tie as tie
 
-cast-s1 : tie.Need-cast-s1
-cast-s1 c = search needs
-
-cast-s2 : tie.Need-cast-s2
-cast-s2 c = search needs
-
-cast-s3 : tie.Need-cast-s3
-cast-s3 c = search needs
-
-cast-s4 : tie.Need-cast-s4
-cast-s4 c = search needs
-
 crossed-requires : tie.Need-crossed-requires
 crossed-requires c κs =
     let s = c .args .s in
@@ -46,13 +34,5 @@ pub rule-two-spec : {M : Type 1} → statement M
 rule-two-spec =
     tie.close
     (tie.spec
-    cast-s1
-    cast-s2
-    cast-s3
-    cast-s4
-    crossed-requires
-    crossed-requires-2
-    inverted-requires
-    times-requires
-    times-requires-2
-    returns)
+    (λ c. search needs) (λ c. search needs) (λ c. search needs) (λ c. search needs) crossed-requires
+    crossed-requires-2 inverted-requires times-requires times-requires-2 returns)

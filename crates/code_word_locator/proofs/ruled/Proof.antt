@@ -12,24 +12,6 @@ rule-low-requires c κs =
     let p = c .before .pre in
     (p .0, p .1, p .2, λ n. absurd (omega arith))
 
-returns : tie.Need-returns
-returns c = search needs
-
-cast-s1 : tie.Need-cast-s1
-cast-s1 c = search needs
-
-cast-s2 : tie.Need-cast-s2
-cast-s2 c = search needs
-
-cast-s3 : tie.Need-cast-s3
-cast-s3 c = search needs
-
-cast-s4 : tie.Need-cast-s4
-cast-s4 c = search needs
-
-cast-s5 : tie.Need-cast-s5
-cast-s5 c = search needs
-
 crossed-requires : tie.Need-crossed-requires
 crossed-requires c κs =
     let s = c .before .args .s in
@@ -85,18 +67,6 @@ pub ruled-spec : {M : Type 1} → statement M
 ruled-spec =
     tie.close
     (tie.spec
-    rule-low-requires
-    returns
-    cast-s1
-    cast-s2
-    cast-s3
-    cast-s4
-    cast-s5
-    crossed-requires
-    crossed-requires-2
-    crossed-requires-3
-    tripled-requires
-    rule-three-requires
-    returns-2
-    rule-low-requires-2
-    returns-3)
+    rule-low-requires (λ c. search needs) (λ c. search needs) (λ c. search needs) (λ c. search needs)
+    (λ c. search needs) (λ c. search needs) crossed-requires crossed-requires-2 crossed-requires-3
+    tripled-requires rule-three-requires returns-2 rule-low-requires-2 returns-3)

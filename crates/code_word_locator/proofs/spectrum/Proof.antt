@@ -17,20 +17,11 @@ abbrev μ-loop : tie.MeasureT-loop
 loop-holds : tie.Need-loop-holds Inv-loop μ-loop
 loop-holds c = (search needs, spectrum-first (c .before .args .word .now))
 
-shared-slice-read-row : tie.Need-shared-slice-read-row Inv-loop μ-loop
-shared-slice-read-row c = search needs
-
 row-requires : tie.Need-row-requires Inv-loop μ-loop
 row-requires c κs =
     let h = c .before .before in
     let a = h .before .before in
     (a .pre .0, omega arith, semi-octet-at (a .args .word .now) (h .loop .i) (a .pre .1))
-
-add-i : tie.Need-add-i Inv-loop μ-loop
-add-i c = search needs
-
-loop-less : tie.Need-loop-less Inv-loop μ-loop
-loop-less c = search needs
 
 loop-again : tie.Need-loop-again Inv-loop μ-loop
 loop-again c =
@@ -47,12 +38,5 @@ pub spectrum-spec : {M : Type 1} → statement M
 spectrum-spec =
     tie.close
     (tie.spec
-    Inv-loop
-    μ-loop
-    loop-holds
-    shared-slice-read-row
-    row-requires
-    add-i
-    loop-less
-    loop-again
-    returns)
+    Inv-loop μ-loop loop-holds (λ c. search needs) row-requires (λ c. search needs) (λ c. search needs)
+    loop-again returns)

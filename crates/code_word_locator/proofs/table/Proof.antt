@@ -10,4 +10,7 @@ unfolding entries tab quick looked
 returns c = table-of-entries
 
 pub table-spec : {M : Type 1} → statement M
-table-spec = tie.close (tie.spec returns)
+table-spec =
+    tie.close
+    (tie.spec
+    returns)

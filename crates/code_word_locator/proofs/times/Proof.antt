@@ -8,27 +8,6 @@ use Rattle.gf16.proofs.Laws.{product-lt}
 use Rattle.code_word_locator.proofs.times.Statement.{statement}
 use Rattle.code_word_locator.proofs.times.Tie as tie
 
-mul-wide : tie.Need-mul-wide
-mul-wide c = search needs
-
-add-wide : tie.Need-add-wide
-add-wide c = search needs
-
-wide-requires : tie.Need-wide-requires
-wide-requires c κs = search needs
-
-mul-result : tie.Need-mul-result
-mul-result c = search needs
-
-add-result : tie.Need-add-result
-add-result c = search needs
-
-mul-result-2 : tie.Need-mul-result-2
-mul-result-2 c = search needs
-
-element-copy-out-result : tie.Need-element-copy-out-result
-element-copy-out-result c = search needs
-
 cast-result : tie.Need-cast-result
 cast-result c =
     let a = c .before .before .args .a in
@@ -48,12 +27,5 @@ pub times-spec : {M : Type 1} → statement M
 times-spec =
     tie.close
     (tie.spec
-    mul-wide
-    add-wide
-    wide-requires
-    mul-result
-    add-result
-    mul-result-2
-    element-copy-out-result
-    cast-result
-    returns)
+    (λ c. search needs) (λ c. search needs) (λ c κs. search needs) (λ c. search needs) (λ c. search needs)
+    (λ c. search needs) (λ c. search needs) cast-result returns)

@@ -4,19 +4,13 @@ use Rattle.code_word_laws.proofs.Turns.{tripled-is}
 use Rattle.code_word_locator.proofs.tripled.Statement.{statement}
 use Rattle.code_word_locator.proofs.tripled.Tie as tie
 
-times-requires : tie.Need-times-requires
-times-requires c κs = search needs
-
-times-requires-2 : tie.Need-times-requires-2
-times-requires-2 c κs = search needs
-
-times-requires-3 : tie.Need-times-requires-3
-times-requires-3 c κs = search needs
-
 returns : tie.Need-returns
 returns c =
     let a = c .before .before .before .args in
     tripled-is (a .a) (a .x) (a .b) (a .y) (a .c) (a .z) (c .before .before .times .ensures) (c .before .times2 .ensures) (c .times3 .ensures)
 
 pub tripled-spec : {M : Type 1} → statement M
-tripled-spec = tie.close (tie.spec times-requires times-requires-2 times-requires-3 returns)
+tripled-spec =
+    tie.close
+    (tie.spec
+    (λ c κs. search needs) (λ c κs. search needs) (λ c κs. search needs) returns)

@@ -21,4 +21,7 @@ returns-3 c =
     sym (ap (λ (n : ℕ). 16 ^ (n + n)) e)
 
 pub window-spec : {M : Type 1} → statement M
-window-spec = tie.close (tie.spec returns returns-2 returns-3)
+window-spec =
+    tie.close
+    (tie.spec
+    returns returns-2 returns-3)

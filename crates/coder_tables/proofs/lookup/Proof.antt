@@ -10,4 +10,7 @@ unfolding lookTable inTurn
 returns c = sym (by-context-in-turn lookTable)
 
 pub lookup-spec : {M : Type 1} → statement M
-lookup-spec = tie.close (tie.spec returns)
+lookup-spec =
+    tie.close
+    (tie.spec
+    returns)

@@ -9,4 +9,7 @@ unfolding spectrumTable
 returns c = refl
 
 pub spectrum-spec : {M : Type 1} → statement M
-spectrum-spec = tie.close (tie.spec returns)
+spectrum-spec =
+    tie.close
+    (tie.spec
+    returns)

@@ -9,4 +9,7 @@ unfolding coefficientTable
 returns c = refl
 
 pub tns-coefficients-spec : {M : Type 1} → statement M
-tns-coefficients-spec = tie.close (tie.spec returns)
+tns-coefficients-spec =
+    tie.close
+    (tie.spec
+    returns)

@@ -9,4 +9,7 @@ unfolding orderTable
 returns c = refl
 
 pub tns-order-spec : {M : Type 1} → statement M
-tns-order-spec = tie.close (tie.spec returns)
+tns-order-spec =
+    tie.close
+    (tie.spec
+    returns)

@@ -6,11 +6,11 @@ use Rattle.frame_settings.proofs.Rates.{lines-most}
 use Rattle.day_way.proofs.lines_at.Statement.{statement}
 use Rattle.day_way.proofs.lines_at.Tie as tie
 
-line-count-requires : tie.Need-line-count-requires
-line-count-requires c κs = search needs
-
 returns : tie.Need-returns
 returns c = subst⁻¹ (λ (n : ℕ). n ≤ 400) (c .line-count .ensures) (lines-most (c .before .args .khz))
 
 pub lines-at-spec : {M : Type 1} → statement M
-lines-at-spec = tie.close (tie.spec line-count-requires returns)
+lines-at-spec =
+    tie.close
+    (tie.spec
+    (λ c κs. search needs) returns)

@@ -13,24 +13,6 @@ Inv-loop bytes buffer₀ used t₀ at₀ place₀ buffer t at place = (length bu
 abbrev μ-loop : tie.MeasureT-loop
 μ-loop bytes buffer₀ used t₀ at₀ place₀ buffer t at place = length bytes - at
 
-new-requires : tie.Need-new-requires Inv-loop μ-loop
-new-requires c κs = search needs
-
-loop-holds : tie.Need-loop-holds Inv-loop μ-loop
-loop-holds c = search needs
-
-frame-at-requires : tie.Need-frame-at-requires Inv-loop μ-loop
-frame-at-requires c κs = search needs
-
-enum-known-found : tie.Need-enum-known-found Inv-loop μ-loop
-enum-known-found c = search needs
-
-same-length : tie.Need-same-length Inv-loop μ-loop
-same-length c = search needs
-
-returns : tie.Need-returns Inv-loop μ-loop
-returns c = search needs
-
 sub-send : tie.Need-sub-send Inv-loop μ-loop
 sub-send c =
     let f = rw (c .before .found .given .1) at (c .before .before .before .frame-at .ensures) in
@@ -52,12 +34,6 @@ send-requires c κs =
     let f = rw (k .before .found .given .1) at (k .before .before .before .frame-at .ensures) in
     omega arith
 
-same-length-2 : tie.Need-same-length-2 Inv-loop μ-loop
-same-length-2 c = search needs
-
-returns-2 : tie.Need-returns-2 Inv-loop μ-loop
-returns-2 c = search needs
-
 add-place : tie.Need-add-place Inv-loop μ-loop
 add-place c =
     let k = c .before .before .before .before .before .before .before in
@@ -76,32 +52,11 @@ loop-again c =
     let f = rw (k .before .found .given .1) at (k .before .before .before .frame-at .ensures) in
     (search needs, omega arith, omega arith)
 
-same-length-3 : tie.Need-same-length-3 Inv-loop μ-loop
-same-length-3 c = search needs
-
-returns-3 : tie.Need-returns-3 Inv-loop μ-loop
-returns-3 c = search needs
-
 pub walk-spec : {M : Type 1} → statement M
 walk-spec =
     tie.close
     (tie.spec
-    Inv-loop
-    μ-loop
-    new-requires
-    loop-holds
-    frame-at-requires
-    enum-known-found
-    same-length
-    returns
-    sub-send
-    part-send-start
-    part-send-end
-    send-requires
-    same-length-2
-    returns-2
-    add-place
-    loop-less
-    loop-again
-    same-length-3
-    returns-3)
+    Inv-loop μ-loop (λ c κs. search needs) (λ c. search needs) (λ c κs. search needs) (λ c. search needs)
+    (λ c. search needs) (λ c. search needs) sub-send part-send-start part-send-end send-requires
+    (λ c. search needs) (λ c. search needs) add-place loop-less loop-again (λ c. search needs)
+    (λ c. search needs))

@@ -12,18 +12,6 @@ use Rattle.frame_arithmetic.specs.Answers.{refused}
 use Rattle.frame_arithmetic.proofs.ArithmeticSteps.{answers-by, answers-setting}
 use Rattle.frame.proofs.WholeFrame.{judged-unknown, judged-short, judged-long, judged-known}
 
-rate-setting-requires : tie.Need-rate-setting-requires
-rate-setting-requires c κs = search needs
-
-enum-known-known : tie.Need-enum-known-known
-enum-known-known c = search needs
-
-enum-told : tie.Need-enum-told
-enum-told c = search needs
-
-refused-requires : tie.Need-refused-requires
-refused-requires c κs = search needs
-
 returns : tie.Need-returns
 returns c =
     let z = c .before .before .before .before .before .before .args in
@@ -35,15 +23,6 @@ read-sized-requires c κs =
     let b = c .before .before .before .before .before in
     let k = rw (b .known .given .1) at (b .before .before .rate-setting .ensures .1) in
     (k, record { least = omega arith; most = omega arith })
-
-refused-requires-2 : tie.Need-refused-requires-2
-refused-requires-2 c κs = search needs
-
-same-length : tie.Need-same-length
-same-length c = search needs
-
-same-length-2 : tie.Need-same-length-2
-same-length-2 c = search needs
 
 returns-2 : tie.Need-returns-2
 returns-2 c =
@@ -72,14 +51,5 @@ pub read-spec : {M : Type 1} → statement M
 read-spec =
     tie.close
     (tie.spec
-    rate-setting-requires
-    enum-known-known
-    enum-told
-    refused-requires
-    returns
-    read-sized-requires
-    refused-requires-2
-    same-length
-    same-length-2
-    returns-2
-    returns-3)
+    (λ c κs. search needs) (λ c. search needs) (λ c. search needs) (λ c κs. search needs) returns
+    read-sized-requires (λ c κs. search needs) (λ c. search needs) (λ c. search needs) returns-2 returns-3)

@@ -9,37 +9,16 @@ use Rattle.frame_arithmetic.specs.Answers.{judgedRead}
 use Rattle.frame_arithmetic.proofs.ArithmeticSteps.{answers-by, answers-length, answers-cause}
 use Rattle.frame.proofs.WholeFrame.{judged-spectrum, judged-residual, judged-read, side-refused, frame-rest}
 
-refused-requires : tie.Need-refused-requires
-refused-requires c κs = search needs
-
 returns : tie.Need-returns
 returns c =
     let z = c .before .before .before .before .args in
     answers-length (c .refused .result) _ _ _ (c .refused .ensures) (judged-spectrum (z .r) (now (z .frame)) _ _ (c .before .if1 .taken))
-
-refused-requires-2 : tie.Need-refused-requires-2
-refused-requires-2 c κs = search needs
 
 returns-2 : tie.Need-returns-2
 returns-2 c =
     let z = c .before .before .before .before .before .args in
     let j = judged-residual (z .r) (now (z .frame)) _ _ (c .before .before .if1 .left) (c .before .if2 .taken) in
     answers-length (c .refused2 .result) _ _ _ (c .refused2 .ensures) j
-
-read-side-requires : tie.Need-read-side-requires
-read-side-requires c κs = search needs
-
-enum-known-got : tie.Need-enum-known-got
-enum-known-got c = search needs
-
-enum-told : tie.Need-enum-told
-enum-told c = search needs
-
-side-cause-requires : tie.Need-side-cause-requires
-side-cause-requires c κs = search needs
-
-refused-requires-3 : tie.Need-refused-requires-3
-refused-requires-3 c κs = search needs
 
 returns-3 : tie.Need-returns-3
 returns-3 c =
@@ -58,12 +37,6 @@ read-arithmetic-requires c κs =
     let g = rw (c .before .before .before .got .given .1) at (b .read-side .ensures .1) in
     (z .0, z .1, g, b .before .before .if1 .left, b .before .if2 .left)
 
-same-length : tie.Need-same-length
-same-length c = search needs
-
-same-length-2 : tie.Need-same-length-2
-same-length-2 c = search needs
-
 returns-4 : tie.Need-returns-4
 returns-4 c =
     let r = c .before .before .before .read-arithmetic in
@@ -77,17 +50,6 @@ pub read-sized-spec : {M : Type 1} → statement M
 read-sized-spec =
     tie.close
     (tie.spec
-    refused-requires
-    returns
-    refused-requires-2
-    returns-2
-    read-side-requires
-    enum-known-got
-    enum-told
-    side-cause-requires
-    refused-requires-3
-    returns-3
-    read-arithmetic-requires
-    same-length
-    same-length-2
-    returns-4)
+    (λ c κs. search needs) returns (λ c κs. search needs) returns-2 (λ c κs. search needs) (λ c. search needs)
+    (λ c. search needs) (λ c κs. search needs) (λ c κs. search needs) returns-3 read-arithmetic-requires
+    (λ c. search needs) (λ c. search needs) returns-4)

@@ -30,27 +30,6 @@ before-second g = g .before .before .before .before
 abbrev second : tie.After-known-told2 → tie.After-filter2
 second b = b .before .before .before .before
 
-tns-order-requires : tie.Need-tns-order-requires
-tns-order-requires c κs = search needs
-
-tns-coefficients-requires : tie.Need-tns-coefficients-requires
-tns-coefficients-requires c κs = search needs
-
-tns-weighting-requires : tie.Need-tns-weighting-requires
-tns-weighting-requires c κs = search needs
-
-start-requires : tie.Need-start-requires
-start-requires c κs = search needs
-
-slice-aggregate-filter : tie.Need-slice-aggregate-filter
-slice-aggregate-filter c = search needs
-
-slice-aggregate-filter-2 : tie.Need-slice-aggregate-filter-2
-slice-aggregate-filter-2 c = search needs
-
-slice-aggregate-filter-3 : tie.Need-slice-aggregate-filter-3
-slice-aggregate-filter-3 c = search needs
-
 filter-requires : tie.Need-filter-requires
 filter-requires c κs =
     let s = c .before .before .before in
@@ -63,18 +42,6 @@ filter-requires c κs =
       s .start .ensures .1,
       omega (arith, t),
     )
-
-enum-known-got : tie.Need-enum-known-got
-enum-known-got c = search needs
-
-enum-told : tie.Need-enum-told
-enum-told c = search needs
-
-filter-cause-requires : tie.Need-filter-cause-requires
-filter-cause-requires c κs = search needs
-
-refused-requires : tie.Need-refused-requires
-refused-requires c κs = search needs
 
 -- the first filter, as it was read
 first-found : (f : tie.After-filter)
@@ -105,15 +72,6 @@ returns c =
     let e = first-refused _ (z .r) _ (z .p) _ (f .filter .result) _ _ _ (first-found f) i (c .before .filter-cause .ensures) (f .filter .ensures .1) in
     answers-cause (c .refused .result) _ _ _ _ _ _ (c .refused .ensures) (e .0) refl refl (e .1)
 
-slice-aggregate-filter-4 : tie.Need-slice-aggregate-filter-4
-slice-aggregate-filter-4 c = search needs
-
-slice-aggregate-filter-5 : tie.Need-slice-aggregate-filter-5
-slice-aggregate-filter-5 c = search needs
-
-slice-aggregate-filter-6 : tie.Need-slice-aggregate-filter-6
-slice-aggregate-filter-6 c = search needs
-
 filter-requires-2 : tie.Need-filter-requires-2
 filter-requires-2 c κs =
     let b = c .before .before .before in
@@ -128,18 +86,6 @@ filter-requires-2 c κs =
       g .2,
       omega (arith, t, g .1),
     )
-
-enum-known-got2 : tie.Need-enum-known-got2
-enum-known-got2 c = search needs
-
-enum-told-2 : tie.Need-enum-told-2
-enum-told-2 c = search needs
-
-filter-cause-requires-2 : tie.Need-filter-cause-requires-2
-filter-cause-requires-2 c κs = search needs
-
-refused-requires-2 : tie.Need-refused-requires-2
-refused-requires-2 c κs = search needs
 
 -- the second filter, as it was read
 second-found : (g : tie.After-filter2) → let z = entry (started (first (before-second g))) .args in
@@ -180,24 +126,6 @@ read-spectral-requires c κs =
     let h = rw (b .before .got2 .given .1) at (b .before .before .before .before .filter2 .ensures .1) in
     (z .pre .0, z .pre .1, z .pre .2 .2, z .pre .2 .1, z .pre .2 .3, h .2, omega (arith, t, g .1, h .1), z .pre .2 .6, z .pre .3, z .pre .4)
 
-enum-known-got3 : tie.Need-enum-known-got3
-enum-known-got3 c = search needs
-
-enum-told-3 : tie.Need-enum-told-3
-enum-told-3 c = search needs
-
-spectral-cause-requires : tie.Need-spectral-cause-requires
-spectral-cause-requires c κs = search needs
-
-refused-requires-3 : tie.Need-refused-requires-3
-refused-requires-3 c κs = search needs
-
-same-length : tie.Need-same-length
-same-length c = search needs
-
-same-length-2 : tie.Need-same-length-2
-same-length-2 c = search needs
-
 returns-3 : tie.Need-returns-3
 returns-3 c =
     let n = c .before .before .before .before in
@@ -210,12 +138,6 @@ returns-3 c =
     let e = third-refused _ (z .r) _ (z .p) _ _ _ _ (r .result) _ _ _ _ _ (first-taken d) (second-taken b) (r .ensures .0) i q (r .ensures .1 .1) in
     let k = rw i at (r .ensures .1 .0) in
     answers-cause (c .refused3 .result) _ _ _ _ _ _ (c .refused3 .ensures) (e .0) (k .0) (k .1) (e .1)
-
-same-length-3 : tie.Need-same-length-3
-same-length-3 c = search needs
-
-same-length-4 : tie.Need-same-length-4
-same-length-4 c = search needs
 
 returns-4 : tie.Need-returns-4
 returns-4 c =
@@ -236,36 +158,10 @@ pub read-arithmetic-spec : {M : Type 1} → statement M
 read-arithmetic-spec =
     tie.close
     (tie.spec
-    tns-order-requires
-    tns-coefficients-requires
-    tns-weighting-requires
-    start-requires
-    slice-aggregate-filter
-    slice-aggregate-filter-2
-    slice-aggregate-filter-3
-    filter-requires
-    enum-known-got
-    enum-told
-    filter-cause-requires
-    refused-requires
-    returns
-    slice-aggregate-filter-4
-    slice-aggregate-filter-5
-    slice-aggregate-filter-6
-    filter-requires-2
-    enum-known-got2
-    enum-told-2
-    filter-cause-requires-2
-    refused-requires-2
-    returns-2
-    read-spectral-requires
-    enum-known-got3
-    enum-told-3
-    spectral-cause-requires
-    refused-requires-3
-    same-length
-    same-length-2
-    returns-3
-    same-length-3
-    same-length-4
-    returns-4)
+    (λ c κs. search needs) (λ c κs. search needs) (λ c κs. search needs) (λ c κs. search needs)
+    (λ c. search needs) (λ c. search needs) (λ c. search needs) filter-requires (λ c. search needs)
+    (λ c. search needs) (λ c κs. search needs) (λ c κs. search needs) returns (λ c. search needs)
+    (λ c. search needs) (λ c. search needs) filter-requires-2 (λ c. search needs) (λ c. search needs)
+    (λ c κs. search needs) (λ c κs. search needs) returns-2 read-spectral-requires (λ c. search needs)
+    (λ c. search needs) (λ c κs. search needs) (λ c κs. search needs) (λ c. search needs) (λ c. search needs)
+    returns-3 (λ c. search needs) (λ c. search needs) returns-4)

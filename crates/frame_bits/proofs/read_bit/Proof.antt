@@ -6,15 +6,6 @@ use Rattle.frame_bits.proofs.read_bit.Statement.{statement}
 use Rattle.frame_bits.proofs.SideBits.{bit-inside, bit-outside}
 use Rattle.frame_bits.proofs.read_bit.Tie as tie
 
-mul-if1 : tie.Need-mul-if1
-mul-if1 c = search needs
-
-bit-at-requires : tie.Need-bit-at-requires
-bit-at-requires c κs = search needs
-
-add-t8 : tie.Need-add-t8
-add-t8 c = search needs
-
 returns : tie.Need-returns
 returns c =
     let a = c .before .before .before .args in
@@ -25,4 +16,7 @@ returns-2 : tie.Need-returns-2
 returns-2 c = let a = c .before .before .args in (sym (bit-outside (now (a .s)) (a .p) (c .if1 .left)), refl)
 
 pub read-bit-spec : {M : Type 1} → statement M
-read-bit-spec = tie.close (tie.spec mul-if1 bit-at-requires add-t8 returns returns-2)
+read-bit-spec =
+    tie.close
+    (tie.spec
+    (λ c. search needs) (λ c κs. search needs) (λ c. search needs) returns returns-2)

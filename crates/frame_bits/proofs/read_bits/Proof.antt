@@ -6,18 +6,6 @@ use Rattle.frame_bits.proofs.read_bits.Statement.{statement}
 use Rattle.frame_bits.proofs.SideBits.{field-inside, field-outside, bits-below}
 use Rattle.frame_bits.proofs.read_bits.Tie as tie
 
-add-if1 : tie.Need-add-if1
-add-if1 c = search needs
-
-mul-if1 : tie.Need-mul-if1
-mul-if1 c = search needs
-
-bits-at-requires : tie.Need-bits-at-requires
-bits-at-requires c κs = search needs
-
-add-t10 : tie.Need-add-t10
-add-t10 c = search needs
-
 returns : tie.Need-returns
 returns c =
     let a = c .before .before .before .args in
@@ -29,4 +17,7 @@ returns-2 : tie.Need-returns-2
 returns-2 c = let a = c .before .before .args in (sym (field-outside (now (a .s)) (a .p) (a .n) (c .if1 .left)), (refl, c .if1 .left))
 
 pub read-bits-spec : {M : Type 1} → statement M
-read-bits-spec = tie.close (tie.spec add-if1 mul-if1 bits-at-requires add-t10 returns returns-2)
+read-bits-spec =
+    tie.close
+    (tie.spec
+    (λ c. search needs) (λ c. search needs) (λ c κs. search needs) (λ c. search needs) returns returns-2)

@@ -6,25 +6,13 @@ use Rattle.frame_coder.proofs.Decoding.{scaled-rise, narrow, symbol-hig
 use Rattle.frame_coder.proofs.decode.Statement.{statement}
 use Rattle.frame_coder.proofs.decode.Tie as tie
 
-mul-if1 : tie.Need-mul-if1
-mul-if1 c = search needs
-
 returns : tie.Need-returns
 returns c =
     let a = c .before .before .before .args in
     (sym (symbol-high (a .s .now) (a .cum .now) (a .row) (a .last) (a .c) (c .if1 .taken)), (omega arith, omega arith))
 
-find-requires : tie.Need-find-requires
-find-requires c κs = search needs
-
-sub-t10 : tie.Need-sub-t10
-sub-t10 c = search needs
-
 sub-t12 : tie.Need-sub-t12
 sub-t12 c = scaled-rise (c .before .before .before .before .before .before .pre .1) (c .before .before .find .ensures .1)
-
-add-t13 : tie.Need-add-t13
-add-t13 c = search needs
 
 refill-requires : tie.Need-refill-requires
 refill-requires c κs =
@@ -46,4 +34,6 @@ returns-2 c =
 pub decode-spec : {M : Type 1} → statement M
 decode-spec =
     tie.close
-    (tie.spec mul-if1 returns find-requires sub-t10 sub-t12 add-t13 refill-requires returns-2)
+    (tie.spec
+    (λ c. search needs) returns (λ c κs. search needs) (λ c. search needs) sub-t12 (λ c. search needs)
+    refill-requires returns-2)

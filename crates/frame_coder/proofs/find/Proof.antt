@@ -16,17 +16,8 @@ Inv-loop cum row t low last v₀ below₀ above₀ v below above =
 abbrev μ-loop : tie.MeasureT-loop
 μ-loop cum row t low last v₀ below₀ above₀ v below above = last - v
 
-add-entry : tie.Need-add-entry Inv-loop μ-loop
-add-entry c = search needs
-
-mul-entry : tie.Need-mul-entry Inv-loop μ-loop
-mul-entry c = search needs
-
 shared-slice-read-entry : tie.Need-shared-slice-read-entry Inv-loop μ-loop
 shared-slice-read-entry c = let h = c .before .before .pre .0 .inside in omega arith
-
-entry-requires : tie.Need-entry-requires Inv-loop μ-loop
-entry-requires c κs = search needs
 
 mul-above : tie.Need-mul-above Inv-loop μ-loop
 mul-above c =
@@ -64,9 +55,6 @@ mul-entry-2 c = let m = more c in record { fits = omega arith }
 shared-slice-read-entry-2 : tie.Need-shared-slice-read-entry-2 Inv-loop μ-loop
 shared-slice-read-entry-2 c = let m = more (c .before) in let h = c .before .before .before .before .before .before .pre .0 .inside in omega arith
 
-entry-requires-2 : tie.Need-entry-requires-2 Inv-loop μ-loop
-entry-requires-2 c κs = search needs
-
 mul-above-2 : tie.Need-mul-above-2 Inv-loop μ-loop
 mul-above-2 c =
     let h = c .before .before .before .before .before .before .before in
@@ -97,21 +85,6 @@ pub find-spec : {M : Type 1} → statement M
 find-spec =
     tie.close
     (tie.spec
-    Inv-loop
-    μ-loop
-    add-entry
-    mul-entry
-    shared-slice-read-entry
-    entry-requires
-    mul-above
-    loop-holds
-    add-v
-    add-entry-2
-    add-entry-3
-    mul-entry-2
-    shared-slice-read-entry-2
-    entry-requires-2
-    mul-above-2
-    loop-less
-    loop-again
-    returns)
+    Inv-loop μ-loop (λ c. search needs) (λ c. search needs) shared-slice-read-entry (λ c κs. search needs)
+    mul-above loop-holds add-v add-entry-2 add-entry-3 mul-entry-2 shared-slice-read-entry-2
+    (λ c κs. search needs) mul-above-2 loop-less loop-again returns)

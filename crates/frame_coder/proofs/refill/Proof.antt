@@ -35,30 +35,6 @@ returns-2 c =
     let l = c .before .before .before .loop in
     (sym (refill-out _ _ _ (l .n) (c .before .before .loop-test .taken) (c .before .if1 .left) (c .if2 .taken)) ∙ l .inv .8, refl)
 
-mul-low : tie.Need-mul-low Inv-loop μ-loop
-mul-low c = search needs
-
-shared-slice-read-wide : tie.Need-shared-slice-read-wide Inv-loop μ-loop
-shared-slice-read-wide c = search needs
-
-wide-requires : tie.Need-wide-requires Inv-loop μ-loop
-wide-requires c κs = search needs
-
-add-low : tie.Need-add-low Inv-loop μ-loop
-add-low c = search needs
-
-mul-range : tie.Need-mul-range Inv-loop μ-loop
-mul-range c = search needs
-
-add-at : tie.Need-add-at Inv-loop μ-loop
-add-at c = search needs
-
-sub-n : tie.Need-sub-n Inv-loop μ-loop
-sub-n c = search needs
-
-loop-less : tie.Need-loop-less Inv-loop μ-loop
-loop-less c = search needs
-
 loop-again : tie.Need-loop-again Inv-loop μ-loop
 loop-again c =
     let l = c .before .before .before .before .before .loop in
@@ -88,18 +64,6 @@ pub refill-spec : {M : Type 1} → statement M
 refill-spec =
     tie.close
     (tie.spec
-    Inv-loop
-    μ-loop
-    loop-holds
-    returns
-    returns-2
-    mul-low
-    shared-slice-read-wide
-    wide-requires
-    add-low
-    mul-range
-    add-at
-    sub-n
-    loop-less
-    loop-again
-    returns-3)
+    Inv-loop μ-loop loop-holds returns returns-2 (λ c. search needs) (λ c. search needs)
+    (λ c κs. search needs) (λ c. search needs) (λ c. search needs) (λ c. search needs) (λ c. search needs)
+    (λ c. search needs) loop-again returns-3)

@@ -7,9 +7,6 @@ use Prim.Native.Nat.{ℕ, _+_}
 use mathlib.Core.Path.{ap}
 use Rattle.frame_pair.proofs.Escaping.{shl-is, above-small}
 
-shl-result : tie.Need-shl-result
-shl-result c = search needs
-
 add-result : tie.Need-add-result
 add-result c =
     let a = c .args in
@@ -21,4 +18,7 @@ returns : tie.Need-returns
 returns c = ap (λ (k : ℕ). c .args .x + k) (shl-is (c .args .a) (c .args .level) (c .pre .1) (c .pre .2))
 
 pub above-spec : {M : Type 1} → statement M
-above-spec = tie.close (tie.spec shl-result add-result returns)
+above-spec =
+    tie.close
+    (tie.spec
+    (λ c. search needs) add-result returns)

@@ -11,4 +11,7 @@ returns-2 : tie.Need-returns-2
 returns-2 c = (capped-high (c .before .args .level) (c .if1 .left), omega arith)
 
 pub cap-spec : {M : Type 1} → statement M
-cap-spec = tie.close (tie.spec returns returns-2)
+cap-spec =
+    tie.close
+    (tie.spec
+    returns returns-2)

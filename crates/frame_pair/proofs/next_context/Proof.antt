@@ -6,18 +6,6 @@ use Prim.Native.Nat.{_+_, _*_, _/_, _%_, _≤_}
 use native.Mathlib.Omega.{arith}
 use Rattle.frame_pair.proofs.Escaping.{weight, context-low, context-high}
 
-cap-requires : tie.Need-cap-requires
-cap-requires c κs = search needs
-
-mul-result : tie.Need-mul-result
-mul-result c = search needs
-
-add-result : tie.Need-add-result
-add-result c = search needs
-
-add-result-2 : tie.Need-add-result-2
-add-result-2 c = search needs
-
 weighed : (c : tie.Then1) → let v = c .before .before .args .v in (v % 4 + v / 4) * (c .before .cap .result + 1) ≤ 12
 weighed c = let v = c .before .before .args .v in weight (v % 4) (v / 4) (c .before .cap .result) (omega arith) (c .if1 .taken)
 
@@ -36,15 +24,6 @@ returns c =
     let w = weighed c in
     (context-low (a .c) (a .v % 4) (a .v / 4) (a .level) (c .before .cap .result) (c .before .cap .ensures .0) (c .if1 .taken), omega arith)
 
-mul-result-3 : tie.Need-mul-result-3
-mul-result-3 c = search needs
-
-add-result-5 : tie.Need-add-result-5
-add-result-5 c = search needs
-
-add-result-6 : tie.Need-add-result-6
-add-result-6 c = search needs
-
 returns-2 : tie.Need-returns-2
 returns-2 c =
     let a = c .before .before .args in
@@ -54,15 +33,5 @@ pub next-context-spec : {M : Type 1} → statement M
 next-context-spec =
     tie.close
     (tie.spec
-    cap-requires
-    mul-result
-    add-result
-    add-result-2
-    mul-result-2
-    add-result-3
-    add-result-4
-    returns
-    mul-result-3
-    add-result-5
-    add-result-6
-    returns-2)
+    (λ c κs. search needs) (λ c. search needs) (λ c. search needs) (λ c. search needs) mul-result-2
+    add-result-3 add-result-4 returns (λ c. search needs) (λ c. search needs) (λ c. search needs) returns-2)

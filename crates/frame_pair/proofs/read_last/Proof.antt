@@ -48,15 +48,6 @@ decode-requires c κs =
       omega (arith, l .inv .3, l .inv .0, s .pre .5),
     )
 
-enum-known-got : tie.Need-enum-known-got Inv-loop μ-loop
-enum-known-got c = search needs
-
-enum-told : tie.Need-enum-told Inv-loop μ-loop
-enum-told c = search needs
-
-symbol-cause-requires : tie.Need-symbol-cause-requires Inv-loop μ-loop
-symbol-cause-requires c κs = search needs
-
 -- the definition's symbol is the one decoded
 found : (d : tie.After-decode Inv-loop μ-loop) → let s = begin (d .before .before) in let l = d .before .before .before .loop in
     symbolGiven (d .decode .result)
@@ -108,15 +99,6 @@ read-plane-requires c κs =
     let h = begin i .pre in
     (h .0, h .2, l .inv .1, l .inv .2, omega (arith, i .loop-test .taken))
 
-enum-known-got2 : tie.Need-enum-known-got2 Inv-loop μ-loop
-enum-known-got2 c = search needs
-
-enum-told-2 : tie.Need-enum-told-2 Inv-loop μ-loop
-enum-told-2 c = search needs
-
-plane-cause-requires : tie.Need-plane-cause-requires Inv-loop μ-loop
-plane-cause-requires c κs = search needs
-
 returns-3 : tie.Need-returns-3 Inv-loop μ-loop
 returns-3 c =
     let e = c .before .enum-told2 .given .1 in
@@ -132,12 +114,6 @@ returns-3 c =
           (i .loop-test .taken) (known k) (r .before .if1 .left) (sym f)) ∙ l .inv .5,
       (omega (arith, n, g), omega (arith, n, g)),
     )
-
-add-level : tie.Need-add-level Inv-loop μ-loop
-add-level c = search needs
-
-loop-less : tie.Need-loop-less Inv-loop μ-loop
-loop-less c = search needs
 
 loop-again : tie.Need-loop-again Inv-loop μ-loop
 loop-again c =
@@ -172,22 +148,6 @@ pub read-last-spec : {M : Type 1} → statement M
 read-last-spec =
     tie.close
     (tie.spec
-    Inv-loop
-    μ-loop
-    loop-holds
-    row-of-requires
-    decode-requires
-    enum-known-got
-    enum-told
-    symbol-cause-requires
-    returns
-    returns-2
-    read-plane-requires
-    enum-known-got2
-    enum-told-2
-    plane-cause-requires
-    returns-3
-    add-level
-    loop-less
-    loop-again
-    returns-4)
+    Inv-loop μ-loop loop-holds row-of-requires decode-requires (λ c. search needs) (λ c. search needs)
+    (λ c κs. search needs) returns returns-2 read-plane-requires (λ c. search needs) (λ c. search needs)
+    (λ c κs. search needs) returns-3 (λ c. search needs) (λ c. search needs) loop-again returns-4)

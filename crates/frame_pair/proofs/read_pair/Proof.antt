@@ -13,18 +13,6 @@ use Rattle.frame_coder.specs.Sound.{Sound}
 use Rattle.frame_pair.specs.Sound.{Built}
 use Rattle.frame_pair.proofs.Escaping.{room, pair-stop, pair-signed, signed-first, signed-second, signed-crossed, signed-read}
 
-read-last-requires : tie.Need-read-last-requires
-read-last-requires c κs = search needs
-
-enum-known-got : tie.Need-enum-known-got
-enum-known-got c = search needs
-
-enum-told : tie.Need-enum-told
-enum-told c = search needs
-
-last-cause-requires : tie.Need-last-cause-requires
-last-cause-requires c κs = search needs
-
 returns : tie.Need-returns
 returns c =
     let e = c .before .enum-told .given .1 in
@@ -57,18 +45,6 @@ above-requires c κs = let g = good c in (g .2 .0, omega arith, g .1)
 above-requires-2 : tie.Need-above-requires-2
 above-requires-2 c κs = let g = good (c .before) in (g .3 .0, omega (arith, g .0), g .1)
 
-read-sign-requires : tie.Need-read-sign-requires
-read-sign-requires c κs = search needs
-
-enum-known-got2 : tie.Need-enum-known-got2
-enum-known-got2 c = search needs
-
-enum-told-2 : tie.Need-enum-told-2
-enum-told-2 c = search needs
-
-cause-of-requires : tie.Need-cause-of-requires
-cause-of-requires c κs = search needs
-
 -- the whole pair is what its last symbol leaves
 rest : (b : tie.After-above2) → let k = b .before .before in let a = begin k .args in let v = k .before .got .given .0 in
     pairOf (now (a .s)) (byLevel (now (a .look))) (now (a .cum)) (a .lsb) (a .base) (a .context) (a .c) (a .p)
@@ -97,18 +73,6 @@ returns-2 c =
 first : (k : tie.After-known-told2) → let b = k .before .before .before .before in let l = b .before .before in let v = k .before .got2 .given .0 in
     signOf (now (begin l .args .s)) (b .before .above .result) (l .before .got .given .0 .1 .1 .0) ≡ value (v .0) (v .1 .0)
 first k = sym (rw (k .before .got2 .given .1) at (k .before .before .before .read-sign .ensures .0))
-
-read-sign-requires-2 : tie.Need-read-sign-requires-2
-read-sign-requires-2 c κs = search needs
-
-enum-known-got3 : tie.Need-enum-known-got3
-enum-known-got3 c = search needs
-
-enum-told-3 : tie.Need-enum-told-3
-enum-told-3 c = search needs
-
-cause-of-requires-2 : tie.Need-cause-of-requires-2
-cause-of-requires-2 c κs = search needs
 
 returns-3 : tie.Need-returns-3
 returns-3 c =
@@ -182,25 +146,7 @@ pub read-pair-spec : {M : Type 1} → statement M
 read-pair-spec =
     tie.close
     (tie.spec
-    read-last-requires
-    enum-known-got
-    enum-told
-    last-cause-requires
-    returns
-    above-requires
-    above-requires-2
-    read-sign-requires
-    enum-known-got2
-    enum-told-2
-    cause-of-requires
-    returns-2
-    read-sign-requires-2
-    enum-known-got3
-    enum-told-3
-    cause-of-requires-2
-    returns-3
-    add-if1
-    add-if1-2
-    returns-4
-    next-context-requires
-    returns-5)
+    (λ c κs. search needs) (λ c. search needs) (λ c. search needs) (λ c κs. search needs) returns
+    above-requires above-requires-2 (λ c κs. search needs) (λ c. search needs) (λ c. search needs)
+    (λ c κs. search needs) returns-2 (λ c κs. search needs) (λ c. search needs) (λ c. search needs)
+    (λ c κs. search needs) returns-3 add-if1 add-if1-2 returns-4 next-context-requires returns-5)

@@ -18,18 +18,6 @@ returns c =
       (delayed (a .lsb) (a .level) (a .x) (h .1) (c .if1 .taken) (h .2), delayed (a .lsb) (a .level) (a .y) (h .1) (c .if1 .taken) (h .3)),
     )
 
-read-bit-requires : tie.Need-read-bit-requires
-read-bit-requires c κs = search needs
-
-enum-known-got : tie.Need-enum-known-got
-enum-known-got c = search needs
-
-enum-told : tie.Need-enum-told
-enum-told c = search needs
-
-cause-of-requires : tie.Need-cause-of-requires
-cause-of-requires c κs = search needs
-
 returns-2 : tie.Need-returns-2
 returns-2 c =
     let e = c .before .enum-told .given .1 in
@@ -47,18 +35,6 @@ first c = sym (rw (c .before .got .given .1) at (c .before .before .before .read
 
 first-bit : (c : tie.After-known-told) → c .before .got .given .0 .0 < 2
 first-bit c = (rw (c .before .got .given .1) at (c .before .before .before .read-bit .ensures .1)) .0
-
-read-bit-requires-2 : tie.Need-read-bit-requires-2
-read-bit-requires-2 c κs = search needs
-
-enum-known-got2 : tie.Need-enum-known-got2
-enum-known-got2 c = search needs
-
-enum-told-2 : tie.Need-enum-told-2
-enum-told-2 c = search needs
-
-cause-of-requires-2 : tie.Need-cause-of-requires-2
-cause-of-requires-2 c κs = search needs
 
 returns-3 : tie.Need-returns-3
 returns-3 c =
@@ -113,17 +89,6 @@ pub read-plane-spec : {M : Type 1} → statement M
 read-plane-spec =
     tie.close
     (tie.spec
-    returns
-    read-bit-requires
-    enum-known-got
-    enum-told
-    cause-of-requires
-    returns-2
-    read-bit-requires-2
-    enum-known-got2
-    enum-told-2
-    cause-of-requires-2
-    returns-3
-    above-requires
-    above-requires-2
-    returns-4)
+    returns (λ c κs. search needs) (λ c. search needs) (λ c. search needs) (λ c κs. search needs) returns-2
+    (λ c κs. search needs) (λ c. search needs) (λ c. search needs) (λ c κs. search needs) returns-3
+    above-requires above-requires-2 returns-4)

@@ -12,9 +12,6 @@ returns c =
     let a = c .before .before .args in
     (sym (sign-none (now (a .s)) (a .m) (a .p) (c .if1 .taken)), omega arith)
 
-read-bit-requires : tie.Need-read-bit-requires
-read-bit-requires c κs = search needs
-
 returns-2 : tie.Need-returns-2
 returns-2 c =
     let a = c .before .before .before .args in (
@@ -23,4 +20,7 @@ returns-2 c =
     )
 
 pub read-sign-spec : {M : Type 1} → statement M
-read-sign-spec = tie.close (tie.spec returns read-bit-requires returns-2)
+read-sign-spec =
+    tie.close
+    (tie.spec
+    returns (λ c κs. search needs) returns-2)

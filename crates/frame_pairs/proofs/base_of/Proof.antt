@@ -5,15 +5,6 @@ use Rattle.frame_pairs.proofs.base_of.Tie as tie
 use native.Mathlib.Omega.{arith}
 use Rattle.frame_pairs.proofs.PairWalk.{base-past, base-before}
 
-add-result : tie.Need-add-result
-add-result c = search needs
-
-add-result-2 : tie.Need-add-result-2
-add-result-2 c = search needs
-
-add-result-3 : tie.Need-add-result-3
-add-result-3 c = search needs
-
 returns : tie.Need-returns
 returns c =
     let a = c .before .args in
@@ -25,4 +16,7 @@ returns-2 c =
     (base-before (a .context) (a .offset) (a .half) (a .k) (c .if1 .left), omega arith)
 
 pub base-of-spec : {M : Type 1} → statement M
-base-of-spec = tie.close (tie.spec add-result add-result-2 add-result-3 returns returns-2)
+base-of-spec =
+    tie.close
+    (tie.spec
+    (λ c. search needs) (λ c. search needs) (λ c. search needs) returns returns-2)

@@ -45,30 +45,6 @@ loop-holds c =
       ap (λ (j : ℕ). pairsOf (now (a .s)) (byLevel (now (a .look))) (now (a .cum)) (a .o) j 0 0 (a .first) (a .start) (now (a .lines)) (now (a .levels))) z,
     )
 
-mul-base-of : tie.Need-mul-base-of Inv-loop μ-loop
-mul-base-of c = search needs
-
-base-of-requires : tie.Need-base-of-requires Inv-loop μ-loop
-base-of-requires c κs = search needs
-
-read-pair-requires : tie.Need-read-pair-requires Inv-loop μ-loop
-read-pair-requires c κs = search needs
-
-enum-known-got : tie.Need-enum-known-got Inv-loop μ-loop
-enum-known-got c = search needs
-
-enum-told : tie.Need-enum-told Inv-loop μ-loop
-enum-told c = search needs
-
-pair-cause-requires : tie.Need-pair-cause-requires Inv-loop μ-loop
-pair-cause-requires c κs = search needs
-
-same-length : tie.Need-same-length Inv-loop μ-loop
-same-length c = search needs
-
-same-length-2 : tie.Need-same-length-2 Inv-loop μ-loop
-same-length-2 c = search needs
-
 -- the definition's pair is the one read
 found : (r : tie.After-read-pair Inv-loop μ-loop) → let a = begin (r .before .before) .args in let l = r .before .before .before .loop in
     pairGiven (r .read-pair .result)
@@ -128,9 +104,6 @@ slice-write-levels c =
 add-k : tie.Need-add-k Inv-loop μ-loop
 add-k c = record { fits = omega (arith, inside (c .before .before .before .before)) }
 
-loop-less : tie.Need-loop-less Inv-loop μ-loop
-loop-less c = search needs
-
 loop-again : tie.Need-loop-again Inv-loop μ-loop
 loop-again c =
     let t = c .before .before .store in
@@ -152,12 +125,6 @@ loop-again c =
           q _ _ (t .last .0) (i .loop-test .taken) (known k) (t .ensures) ∙ l .inv .8,
     )
 
-same-length-3 : tie.Need-same-length-3 Inv-loop μ-loop
-same-length-3 c = search needs
-
-same-length-4 : tie.Need-same-length-4 Inv-loop μ-loop
-same-length-4 c = search needs
-
 returns-2 : tie.Need-returns-2 Inv-loop μ-loop
 returns-2 c =
     let l = c .before .loop in
@@ -171,24 +138,7 @@ pub read-pairs-spec : {M : Type 1} → statement M
 read-pairs-spec =
     tie.close
     (tie.spec
-    Inv-loop
-    μ-loop
-    loop-holds
-    mul-base-of
-    base-of-requires
-    read-pair-requires
-    enum-known-got
-    enum-told
-    pair-cause-requires
-    same-length
-    same-length-2
-    returns
-    store-requires
-    cast-levels
-    slice-write-levels
-    add-k
-    loop-less
-    loop-again
-    same-length-3
-    same-length-4
-    returns-2)
+    Inv-loop μ-loop loop-holds (λ c. search needs) (λ c κs. search needs) (λ c κs. search needs)
+    (λ c. search needs) (λ c. search needs) (λ c κs. search needs) (λ c. search needs) (λ c. search needs)
+    returns store-requires cast-levels slice-write-levels add-k (λ c. search needs) loop-again
+    (λ c. search needs) (λ c. search needs) returns-2)

@@ -10,35 +10,8 @@ use mir.ValLaws.{toZ-ofZ}
 use denote.Ref.{now}
 use Rattle.frame_pairs.proofs.PairWalk.{stored}
 
-line-requires : tie.Need-line-requires
-line-requires c κs = search needs
-
-mul-lines : tie.Need-mul-lines
-mul-lines c = search needs
-
-mul-lines-2 : tie.Need-mul-lines-2
-mul-lines-2 c = search needs
-
-slice-set-from-lines : tie.Need-slice-set-from-lines
-slice-set-from-lines c = search needs
-
-line-requires-2 : tie.Need-line-requires-2
-line-requires-2 c κs = search needs
-
-mul-t6 : tie.Need-mul-t6
-mul-t6 c = search needs
-
-add-t5 : tie.Need-add-t5
-add-t5 c = search needs
-
-mul-t8 : tie.Need-mul-t8
-mul-t8 c = search needs
-
 slice-set-from-lines-2 : tie.Need-slice-set-from-lines-2
 slice-set-from-lines-2 c = simp length-set (omega arith)
-
-same-length : tie.Need-same-length
-same-length c = search needs
 
 returns : tie.Need-returns
 returns c =
@@ -52,14 +25,6 @@ pub store-spec : {M : Type 1} → statement M
 store-spec =
     tie.close
     (tie.spec
-    line-requires
-    mul-lines
-    mul-lines-2
-    slice-set-from-lines
-    line-requires-2
-    mul-t6
-    add-t5
-    mul-t8
-    slice-set-from-lines-2
-    same-length
+    (λ c κs. search needs) (λ c. search needs) (λ c. search needs) (λ c. search needs) (λ c κs. search needs)
+    (λ c. search needs) (λ c. search needs) (λ c. search needs) slice-set-from-lines-2 (λ c. search needs)
     returns)

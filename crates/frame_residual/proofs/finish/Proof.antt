@@ -7,24 +7,6 @@ use lib.ListN.{length}
 use denote.Ref.{now}
 use Rattle.frame_residual.proofs.Copying.{sent-zero, sent-one, finished-zero, finished-one, copy-small, roomy-small, roomy-one}
 
-clear-requires : tie.Need-clear-requires
-clear-requires c κs = search needs
-
-copy-requires : tie.Need-copy-requires
-copy-requires c κs = search needs
-
-read-residual-requires : tie.Need-read-residual-requires
-read-residual-requires c κs = search needs
-
-same-length : tie.Need-same-length
-same-length c = search needs
-
-same-length-2 : tie.Need-same-length-2
-same-length-2 c = search needs
-
-same-length-3 : tie.Need-same-length-3
-same-length-3 c = search needs
-
 returns : tie.Need-returns
 returns c =
     let r = c .before .before .read-residual in
@@ -50,18 +32,6 @@ read-lates-requires c κs =
     let r = roomy-one (a .lsb) (now (a .lines)) (now (a .levels)) (s .pre .1) (c .before .if1 .left) (s .pre .6) in
     (search needs, search needs, search needs, search needs, search needs, r)
 
-copy-requires-2 : tie.Need-copy-requires-2
-copy-requires-2 c κs = search needs
-
-same-length-4 : tie.Need-same-length-4
-same-length-4 c = search needs
-
-same-length-5 : tie.Need-same-length-5
-same-length-5 c = search needs
-
-same-length-6 : tie.Need-same-length-6
-same-length-6 c = search needs
-
 returns-2 : tie.Need-returns-2
 returns-2 c =
     let k = c .before .copy2 in
@@ -83,16 +53,6 @@ pub finish-spec : {M : Type 1} → statement M
 finish-spec =
     tie.close
     (tie.spec
-    clear-requires
-    copy-requires
-    read-residual-requires
-    same-length
-    same-length-2
-    same-length-3
-    returns
-    read-lates-requires
-    copy-requires-2
-    same-length-4
-    same-length-5
-    same-length-6
-    returns-2)
+    (λ c κs. search needs) (λ c κs. search needs) (λ c κs. search needs) (λ c. search needs)
+    (λ c. search needs) (λ c. search needs) returns read-lates-requires (λ c κs. search needs)
+    (λ c. search needs) (λ c. search needs) (λ c. search needs) returns-2)

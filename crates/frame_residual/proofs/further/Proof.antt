@@ -16,4 +16,7 @@ returns-2 : tie.Need-returns-2
 returns-2 c = more (c .before .args .v) (c .before .fits .v) (c .before .pre) (c .if1 .left) .1
 
 pub further-spec : {M : Type 1} → statement M
-further-spec = tie.close (tie.spec sub-result add-result returns returns-2)
+further-spec =
+    tie.close
+    (tie.spec
+    sub-result add-result returns returns-2)

@@ -14,29 +14,11 @@ use Rattle.frame_residual.proofs.LateBits.{zero-yes, zero-no, late-none
 returns : tie.Need-returns
 returns c = (late-none _ _ _ _ (c .if1 .taken), tt)
 
-bit-at-requires : tie.Need-bit-at-requires
-bit-at-requires c κs = search needs
-
-add-t7 : tie.Need-add-t7
-add-t7 c = search needs
-
-sub-t8 : tie.Need-sub-t8
-sub-t8 c = search needs
-
 returns-2 : tie.Need-returns-2
 returns-2 c =
     let b = c .before .before .before .before in
     let t = toZ-ofZ w32 (b .args .v) (b .fits .v) in
     (late-same _ _ _ _ _ t (c .before .before .if1 .left) (sym (c .before .bit-at .ensures .0) ∙ c .if2 .taken), (same-abs _ _ t, omega arith))
-
-add-born : tie.Need-add-born
-add-born c = search needs
-
-sub-born : tie.Need-sub-born
-sub-born c = search needs
-
-born-requires : tie.Need-born-requires
-born-requires c κs = search needs
 
 returns-3 : tie.Need-returns-3
 returns-3 c =
@@ -47,15 +29,6 @@ returns-3 c =
       c .born .ensures .0 ∙ e,
       later _ (natAbs (b .args .v)) _ (b .args .p + b .args .left) (c .born .result) (omega arith) (omega arith) (c .born .ensures .1),
     )
-
-further-requires : tie.Need-further-requires
-further-requires c κs = search needs
-
-add-t6 : tie.Need-add-t6
-add-t6 c = search needs
-
-sub-t12 : tie.Need-sub-t12
-sub-t12 c = search needs
 
 returns-4 : tie.Need-returns-4
 returns-4 c =
@@ -72,16 +45,6 @@ pub read-late-spec : {M : Type 1} → statement M
 read-late-spec =
     tie.close
     (tie.spec
-    returns
-    bit-at-requires
-    add-t7
-    sub-t8
-    returns-2
-    add-born
-    sub-born
-    born-requires
-    returns-3
-    further-requires
-    add-t6
-    sub-t12
-    returns-4)
+    returns (λ c κs. search needs) (λ c. search needs) (λ c. search needs) returns-2 (λ c. search needs)
+    (λ c. search needs) (λ c κs. search needs) returns-3 (λ c κs. search needs) (λ c. search needs)
+    (λ c. search needs) returns-4)

@@ -27,33 +27,12 @@ abbrev μ-loop : tie.MeasureT-loop
 loop-holds : tie.Need-loop-holds Inv-loop μ-loop
 loop-holds c = (omega arith, search needs, omega arith, room-first _ _ (c .before .before .pre .5), lates-first _ _ _ _ _ _)
 
-add-k : tie.Need-add-k Inv-loop μ-loop
-add-k c = search needs
-
-shared-slice-read-if1 : tie.Need-shared-slice-read-if1 Inv-loop μ-loop
-shared-slice-read-if1 c = search needs
-
-mul-read-late : tie.Need-mul-read-late Inv-loop μ-loop
-mul-read-late c = search needs
-
-slice-copy-out-read-late : tie.Need-slice-copy-out-read-late Inv-loop μ-loop
-slice-copy-out-read-late c = search needs
-
 read-late-requires : tie.Need-read-late-requires Inv-loop μ-loop
 read-late-requires c κs =
     let l = c .before .before .before .before .loop in
     let x = getD (l .lines) (l .k) (pos 0) in
     let e = toZ-ofZ w32 x (record { sfits = c .read-late-arg .given }) in
     (c .before .before .before .before .before .before .before .pre .0, omega arith, same-small x _ e (l .inv .3 .small (l .k)))
-
-enum-known-got : tie.Need-enum-known-got Inv-loop μ-loop
-enum-known-got c = search needs
-
-enum-told : tie.Need-enum-told Inv-loop μ-loop
-enum-told c = search needs
-
-same-length : tie.Need-same-length Inv-loop μ-loop
-same-length c = search needs
 
 returns : tie.Need-returns Inv-loop μ-loop
 returns c =
@@ -66,15 +45,6 @@ returns c =
     let f = sym (r .read-late .ensures .0) ∙ ap lateGiven (c .enum-told .given .1) in
     let e = lates-stop (now (a .s)) (now (a .levels)) (a .n) (l .k) (l .lines) (l .p) (l .left) _ (b .loop-test .taken) (r .before .before .if1 .taken) i f in
     (sym (sym (l .inv .4) ∙ e), room-last _ _ _ (l .inv .3))
-
-mul-v : tie.Need-mul-v Inv-loop μ-loop
-mul-v c = search needs
-
-slice-set-from-v : tie.Need-slice-set-from-v Inv-loop μ-loop
-slice-set-from-v c = search needs
-
-loop-less : tie.Need-loop-less Inv-loop μ-loop
-loop-less c = search needs
 
 loop-again : tie.Need-loop-again Inv-loop μ-loop
 loop-again c =
@@ -97,9 +67,6 @@ loop-again c =
       lates-more (now (a .s)) (now (a .levels)) (a .n) (l .k) (l .lines) (l .p) (l .left) _ v _ _ _ h z i w f ∙ l .inv .4,
     )
 
-loop-less-2 : tie.Need-loop-less-2 Inv-loop μ-loop
-loop-less-2 c = search needs
-
 loop-again-2 : tie.Need-loop-again-2 Inv-loop μ-loop
 loop-again-2 c =
     let b = c .before .before in
@@ -111,9 +78,6 @@ loop-again-2 c =
       lates-skip _ _ _ (l .k) (l .lines) (l .p) (l .left) (b .loop-test .taken) (c .if1 .left) ∙ l .inv .4,
     )
 
-same-length-2 : tie.Need-same-length-2 Inv-loop μ-loop
-same-length-2 c = search needs
-
 returns-2 : tie.Need-returns-2 Inv-loop μ-loop
 returns-2 c =
     let l = c .before .loop in
@@ -123,23 +87,7 @@ pub read-lates-spec : {M : Type 1} → statement M
 read-lates-spec =
     tie.close
     (tie.spec
-    Inv-loop
-    μ-loop
-    loop-holds
-    add-k
-    shared-slice-read-if1
-    mul-read-late
-    slice-copy-out-read-late
-    read-late-requires
-    enum-known-got
-    enum-told
-    same-length
-    returns
-    mul-v
-    slice-set-from-v
-    loop-less
-    loop-again
-    loop-less-2
-    loop-again-2
-    same-length-2
+    Inv-loop μ-loop loop-holds (λ c. search needs) (λ c. search needs) (λ c. search needs) (λ c. search needs)
+    read-late-requires (λ c. search needs) (λ c. search needs) (λ c. search needs) returns (λ c. search needs)
+    (λ c. search needs) (λ c. search needs) loop-again (λ c. search needs) loop-again-2 (λ c. search needs)
     returns-2)

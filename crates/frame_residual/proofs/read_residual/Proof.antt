@@ -22,18 +22,6 @@ abbrev μ-loop : tie.MeasureT-loop
 loop-holds : tie.Need-loop-holds Inv-loop μ-loop
 loop-holds c = (omega arith, omega arith, search needs, residual-first _ _ _ _ _ _)
 
-add-k : tie.Need-add-k Inv-loop μ-loop
-add-k c = search needs
-
-mul-if1 : tie.Need-mul-if1 Inv-loop μ-loop
-mul-if1 c = search needs
-
-shared-slice-copy-out-if1 : tie.Need-shared-slice-copy-out-if1 Inv-loop μ-loop
-shared-slice-copy-out-if1 c = search needs
-
-same-length : tie.Need-same-length Inv-loop μ-loop
-same-length c = search needs
-
 returns : tie.Need-returns Inv-loop μ-loop
 returns c =
     let b = c .before .before .before in
@@ -41,24 +29,6 @@ returns c =
     let x = getD (now (b .before .before .before .before .args .lines)) (l .k) (pos 0) in
     let e = residual-full _ _ _ _ _ (l .k) (l .count) (l .bits) (b .loop-test .taken) (zero-no x (c .before .if1 .taken)) (c .if2 .taken) in
     (sym (sym (l .inv .3) ∙ e), omega arith)
-
-add-bit-at : tie.Need-add-bit-at Inv-loop μ-loop
-add-bit-at c = search needs
-
-bit-at-requires : tie.Need-bit-at-requires Inv-loop μ-loop
-bit-at-requires c κs = search needs
-
-cast-bits : tie.Need-cast-bits Inv-loop μ-loop
-cast-bits c = search needs
-
-slice-write-bits : tie.Need-slice-write-bits Inv-loop μ-loop
-slice-write-bits c = search needs
-
-add-count : tie.Need-add-count Inv-loop μ-loop
-add-count c = search needs
-
-loop-less : tie.Need-loop-less Inv-loop μ-loop
-loop-less c = search needs
 
 loop-again : tie.Need-loop-again Inv-loop μ-loop
 loop-again c =
@@ -72,9 +42,6 @@ loop-again c =
       residual-more _ _ _ _ _ (l .k) (l .count) _ (l .bits) (b .loop-test .taken) z (c .before .if2 .left) (c .bit-at .ensures .0) ∙ l .inv .3,
     )
 
-loop-less-2 : tie.Need-loop-less-2 Inv-loop μ-loop
-loop-less-2 c = search needs
-
 loop-again-2 : tie.Need-loop-again-2 Inv-loop μ-loop
 loop-again-2 c =
     let b = c .before .before in
@@ -82,9 +49,6 @@ loop-again-2 c =
     let x = getD (now (b .before .before .before .before .args .lines)) (l .k) (pos 0) in
     let z = zero-yes x (record { sfits = c .before .if12 .given }) (c .if1 .left) in
     (omega arith, omega arith, l .inv .2, residual-skip _ _ _ _ _ (l .k) (l .count) (l .bits) (b .loop-test .taken) z ∙ l .inv .3)
-
-same-length-2 : tie.Need-same-length-2 Inv-loop μ-loop
-same-length-2 c = search needs
 
 returns-2 : tie.Need-returns-2 Inv-loop μ-loop
 returns-2 c =
@@ -95,22 +59,7 @@ pub read-residual-spec : {M : Type 1} → statement M
 read-residual-spec =
     tie.close
     (tie.spec
-    Inv-loop
-    μ-loop
-    loop-holds
-    add-k
-    mul-if1
-    shared-slice-copy-out-if1
-    same-length
-    returns
-    add-bit-at
-    bit-at-requires
-    cast-bits
-    slice-write-bits
-    add-count
-    loop-less
-    loop-again
-    loop-less-2
-    loop-again-2
-    same-length-2
+    Inv-loop μ-loop loop-holds (λ c. search needs) (λ c. search needs) (λ c. search needs) (λ c. search needs)
+    returns (λ c. search needs) (λ c κs. search needs) (λ c. search needs) (λ c. search needs)
+    (λ c. search needs) (λ c. search needs) loop-again (λ c. search needs) loop-again-2 (λ c. search needs)
     returns-2)

@@ -5,15 +5,6 @@ use Rattle.frame_settings.proofs.line_count.Tie as tie
 use mathlib.Core.Path.{sym, ap, _∙_}
 use Rattle.frame_settings.specs.Settings.{lineCount, linesAt}
 
-rate-setting-requires : tie.Need-rate-setting-requires
-rate-setting-requires c κs = search needs
-
-enum-known-known : tie.Need-enum-known-known
-enum-known-known c = search needs
-
-enum-told : tie.Need-enum-told
-enum-told c = search needs
-
 returns : tie.Need-returns
 unfolding lineCount
 returns c = sym (ap linesAt (sym (c .before .before .before .rate-setting .ensures .0) ∙ c .before .known .given .1))
@@ -24,4 +15,6 @@ returns-2 c = sym (ap linesAt (sym (c .before .before .rate-setting .ensures .0)
 
 pub line-count-spec : {M : Type 1} → statement M
 line-count-spec =
-    tie.close (tie.spec rate-setting-requires enum-known-known enum-told returns returns-2)
+    tie.close
+    (tie.spec
+    (λ c κs. search needs) (λ c. search needs) (λ c. search needs) returns returns-2)

@@ -6,21 +6,6 @@ use Rattle.frame_settings.proofs.rate_setting.Statement.{statement}
 use Rattle.frame_settings.proofs.Rates.{rate-is, rate-other, known-rate}
 use Rattle.frame_settings.proofs.rate_setting.Tie as tie
 
-known-requires : tie.Need-known-requires
-known-requires c κs = search needs
-
-known-requires-2 : tie.Need-known-requires-2
-known-requires-2 c κs = search needs
-
-known-requires-3 : tie.Need-known-requires-3
-known-requires-3 c κs = search needs
-
-known-requires-4 : tie.Need-known-requires-4
-known-requires-4 c κs = search needs
-
-known-requires-5 : tie.Need-known-requires-5
-known-requires-5 c κs = search needs
-
 returns : tie.Need-returns
 returns c =
     let khz = c .before .before .args .khz in
@@ -58,14 +43,5 @@ pub rate-setting-spec : {M : Type 1} → statement M
 rate-setting-spec =
     tie.close
     (tie.spec
-    known-requires
-    known-requires-2
-    known-requires-3
-    known-requires-4
-    known-requires-5
-    returns
-    returns-2
-    returns-3
-    returns-4
-    returns-5
-    returns-6)
+    (λ c κs. search needs) (λ c κs. search needs) (λ c κs. search needs) (λ c κs. search needs)
+    (λ c κs. search needs) returns returns-2 returns-3 returns-4 returns-5 returns-6)

@@ -5,9 +5,6 @@ use borrow.Author.Tests.{lt-ltb, le-ltb}
 use Rattle.frame_settings.proofs.tns_weighting.Statement.{statement}
 use Rattle.frame_settings.proofs.tns_weighting.Tie as tie
 
-mul-if1 : tie.Need-mul-if1
-mul-if1 c = search needs
-
 returns : tie.Need-returns
 returns c = (simp (lt-ltb _ _ (c .if1 .taken)), omega arith)
 
@@ -15,4 +12,7 @@ returns-2 : tie.Need-returns-2
 returns-2 c = (simp (le-ltb _ _ (c .if1 .left)), omega arith)
 
 pub tns-weighting-spec : {M : Type 1} → statement M
-tns-weighting-spec = tie.close (tie.spec mul-if1 returns returns-2)
+tns-weighting-spec =
+    tie.close
+    (tie.spec
+    (λ c. search needs) returns returns-2)

@@ -11,4 +11,7 @@ returns-2 : tie.Need-returns-2
 returns-2 c = (simp (ne-eqb (c .before .args .mode) 0 (λ e. omega arith)), omega arith)
 
 pub joint-end-spec : {M : Type 1} → statement M
-joint-end-spec = tie.close (tie.spec returns returns-2)
+joint-end-spec =
+    tie.close
+    (tie.spec
+    returns returns-2)

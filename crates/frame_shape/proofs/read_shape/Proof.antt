@@ -71,18 +71,6 @@ joint :
     (c .got6 .given .0 .0) (c .got6 .given .0 .1 .0)
 joint c = let r = c .before .before .read-bits6 in field-of _ _ _ _ _ _ (r .ensures .0) (r .ensures .1) (c .got6 .given .1)
 
-read-bits-requires : tie.Need-read-bits-requires
-read-bits-requires c κs = search needs
-
-enum-known-got : tie.Need-enum-known-got
-enum-known-got c = search needs
-
-enum-told : tie.Need-enum-told
-enum-told c = search needs
-
-cause-of-requires : tie.Need-cause-of-requires
-cause-of-requires c κs = search needs
-
 returns : tie.Need-returns
 returns c =
     let b = c .before .before .before .before .before in
@@ -92,15 +80,6 @@ returns c =
 
 read-bits-requires-2 : tie.Need-read-bits-requires-2
 read-bits-requires-2 c κs = let g = c .before in (omega arith, low g .inside, start-low g .pre .1)
-
-enum-known-got2 : tie.Need-enum-known-got2
-enum-known-got2 c = search needs
-
-enum-told-2 : tie.Need-enum-told-2
-enum-told-2 c = search needs
-
-cause-of-requires-2 : tie.Need-cause-of-requires-2
-cause-of-requires-2 c κs = search needs
 
 returns-2 : tie.Need-returns-2
 returns-2 c =
@@ -113,15 +92,6 @@ returns-2 c =
 
 read-bits-requires-3 : tie.Need-read-bits-requires-3
 read-bits-requires-3 c κs = let g = c .before in (omega arith, high g .inside, start-high g .pre .1)
-
-enum-known-got3 : tie.Need-enum-known-got3
-enum-known-got3 c = search needs
-
-enum-told-3 : tie.Need-enum-told-3
-enum-told-3 c = search needs
-
-cause-of-requires-3 : tie.Need-cause-of-requires-3
-cause-of-requires-3 c κs = search needs
 
 returns-3 : tie.Need-returns-3
 returns-3 c =
@@ -140,15 +110,6 @@ add-read-bits c = let m = mode (c .before) in omega (arith, m .below)
 read-bits-requires-4 : tie.Need-read-bits-requires-4
 read-bits-requires-4 c κs = let g = c .before in let m = mode g .below in (omega (arith, m), mode g .inside, start-mode g .pre .1)
 
-enum-known-got4 : tie.Need-enum-known-got4
-enum-known-got4 c = search needs
-
-enum-told-4 : tie.Need-enum-told-4
-enum-told-4 c = search needs
-
-cause-of-requires-4 : tie.Need-cause-of-requires-4
-cause-of-requires-4 c κs = search needs
-
 returns-4 : tie.Need-returns-4
 returns-4 c =
     let g3 = c .before .before .before .before .before in
@@ -164,15 +125,6 @@ returns-4 c =
 
 read-bits-requires-5 : tie.Need-read-bits-requires-5
 read-bits-requires-5 c κs = let g = c .before in (omega arith, gain g .inside, start-gain g .pre .1)
-
-enum-known-got5 : tie.Need-enum-known-got5
-enum-known-got5 c = search needs
-
-enum-told-5 : tie.Need-enum-told-5
-enum-told-5 c = search needs
-
-cause-of-requires-5 : tie.Need-cause-of-requires-5
-cause-of-requires-5 c κs = search needs
 
 returns-5 : tie.Need-returns-5
 returns-5 c =
@@ -195,15 +147,6 @@ sub-read-bits c = let m = mode (to-mode (to-gain (c .before))) in omega (arith, 
 read-bits-requires-6 : tie.Need-read-bits-requires-6
 read-bits-requires-6 c κs = let g = c .before in let m = mode (to-mode (to-gain g)) .below in (omega (arith, m), sign g .inside, start-sign g .pre .1)
 
-enum-known-got6 : tie.Need-enum-known-got6
-enum-known-got6 c = search needs
-
-enum-told-6 : tie.Need-enum-told-6
-enum-told-6 c = search needs
-
-cause-of-requires-6 : tie.Need-cause-of-requires-6
-cause-of-requires-6 c κs = search needs
-
 returns-6 : tie.Need-returns-6
 returns-6 c =
     let g5 = c .before .before .before .before .before in
@@ -220,9 +163,6 @@ returns-6 c =
     let e = c .before .enum-told6 .given .1 in
     let r = c .before .before .before .read-bits6 .ensures .1 in
     absurd (no-cause _ _ _ _ _ r e (b .pre .1) (omega (arith, f1 .next, f2 .next, f3 .next, f4 .next, f5 .next, b .pre .0, f3 .below)))
-
-joint-end-requires : tie.Need-joint-end-requires
-joint-end-requires c κs = search needs
 
 returns-7 : tie.Need-returns-7
 returns-7 c =
@@ -282,39 +222,10 @@ pub read-shape-spec : {M : Type 1} → statement M
 read-shape-spec =
     tie.close
     (tie.spec
-    read-bits-requires
-    enum-known-got
-    enum-told
-    cause-of-requires
-    returns
-    read-bits-requires-2
-    enum-known-got2
-    enum-told-2
-    cause-of-requires-2
-    returns-2
-    read-bits-requires-3
-    enum-known-got3
-    enum-told-3
-    cause-of-requires-3
-    returns-3
-    add-read-bits
-    read-bits-requires-4
-    enum-known-got4
-    enum-told-4
-    cause-of-requires-4
-    returns-4
-    read-bits-requires-5
-    enum-known-got5
-    enum-told-5
-    cause-of-requires-5
-    returns-5
-    sub-read-bits
-    read-bits-requires-6
-    enum-known-got6
-    enum-told-6
-    cause-of-requires-6
-    returns-6
-    joint-end-requires
-    returns-7
-    shape-of-requires
-    returns-8)
+    (λ c κs. search needs) (λ c. search needs) (λ c. search needs) (λ c κs. search needs) returns
+    read-bits-requires-2 (λ c. search needs) (λ c. search needs) (λ c κs. search needs) returns-2
+    read-bits-requires-3 (λ c. search needs) (λ c. search needs) (λ c κs. search needs) returns-3
+    add-read-bits read-bits-requires-4 (λ c. search needs) (λ c. search needs) (λ c κs. search needs)
+    returns-4 read-bits-requires-5 (λ c. search needs) (λ c. search needs) (λ c κs. search needs) returns-5
+    sub-read-bits read-bits-requires-6 (λ c. search needs) (λ c. search needs) (λ c κs. search needs)
+    returns-6 (λ c κs. search needs) returns-7 shape-of-requires returns-8)

@@ -43,18 +43,6 @@ pitch-present c = let r = c .before .before .read-bits3 in field-of _ _ _ _ _ _ 
 tns-1-below : (c : tie.After-got2) → (c .got2 .given .0 .0) < 2
 tns-1-below c = in-more _ _ 1 (tns-1 c .below) (c .before .before .before .second-flag .ensures .1)
 
-read-bits-requires : tie.Need-read-bits-requires
-read-bits-requires c κs = search needs
-
-enum-known-got : tie.Need-enum-known-got
-enum-known-got c = search needs
-
-enum-told : tie.Need-enum-told
-enum-told c = search needs
-
-cause-of-requires : tie.Need-cause-of-requires
-cause-of-requires c κs = search needs
-
 returns : tie.Need-returns
 returns c =
     let b = c .before .before .before .before .before in
@@ -62,20 +50,8 @@ returns c =
     let r = c .before .before .before .read-bits .ensures .1 in
     absurd (no-cause _ _ _ _ _ r e (b .pre .1) (omega (arith, b .pre .0)))
 
-second-flag-requires : tie.Need-second-flag-requires
-second-flag-requires c κs = search needs
-
 read-bits-requires-2 : tie.Need-read-bits-requires-2
 read-bits-requires-2 c κs = let g = c .before .before in (omega arith, tns-0 g .inside, start-tns-0 g .pre .1)
-
-enum-known-got2 : tie.Need-enum-known-got2
-enum-known-got2 c = search needs
-
-enum-told-2 : tie.Need-enum-told-2
-enum-told-2 c = search needs
-
-cause-of-requires-2 : tie.Need-cause-of-requires-2
-cause-of-requires-2 c κs = search needs
 
 returns-2 : tie.Need-returns-2
 returns-2 c =
@@ -88,15 +64,6 @@ returns-2 c =
 
 read-bits-requires-3 : tie.Need-read-bits-requires-3
 read-bits-requires-3 c κs = let g = c .before in (omega arith, tns-1 g .inside, start-tns-1 g .pre .1)
-
-enum-known-got3 : tie.Need-enum-known-got3
-enum-known-got3 c = search needs
-
-enum-told-3 : tie.Need-enum-told-3
-enum-told-3 c = search needs
-
-cause-of-requires-3 : tie.Need-cause-of-requires-3
-cause-of-requires-3 c κs = search needs
 
 returns-3 : tie.Need-returns-3
 returns-3 c =
@@ -136,23 +103,7 @@ pub read-flags-spec : {M : Type 1} → statement M
 read-flags-spec =
     tie.close
     (tie.spec
-    read-bits-requires
-    enum-known-got
-    enum-told
-    cause-of-requires
-    returns
-    second-flag-requires
-    read-bits-requires-2
-    enum-known-got2
-    enum-told-2
-    cause-of-requires-2
-    returns-2
-    read-bits-requires-3
-    enum-known-got3
-    enum-told-3
-    cause-of-requires-3
-    returns-3
-    cast-t17
-    cast-t18
-    cast-t19
-    returns-4)
+    (λ c κs. search needs) (λ c. search needs) (λ c. search needs) (λ c κs. search needs) returns
+    (λ c κs. search needs) read-bits-requires-2 (λ c. search needs) (λ c. search needs) (λ c κs. search needs)
+    returns-2 read-bits-requires-3 (λ c. search needs) (λ c. search needs) (λ c κs. search needs) returns-3
+    cast-t17 cast-t18 cast-t19 returns-4)

@@ -53,18 +53,6 @@ gain c = let r = c .before .before .read-bits4 in field-of _ _ _ _ _ _ (r .ensur
 last-pair-below : (c : tie.After-got2) → (c .got2 .given .0 .0) < 256
 last-pair-below c = in-more _ _ 8 (last-pair c .below) (start-last-pair c .pre .0 .pair)
 
-read-bits-requires : tie.Need-read-bits-requires
-read-bits-requires c κs = search needs
-
-enum-known-got : tie.Need-enum-known-got
-enum-known-got c = search needs
-
-enum-told : tie.Need-enum-told
-enum-told c = search needs
-
-cause-of-requires : tie.Need-cause-of-requires
-cause-of-requires c κs = search needs
-
 returns : tie.Need-returns
 returns c =
     let b = c .before .before .before .before .before in
@@ -83,15 +71,6 @@ read-bits-requires-2 c κs =
     let g = c .before .before in
     let b = start-bandwidth g in
     (omega (arith, b .pre .0 .pair), bandwidth g .inside, b .pre .1)
-
-enum-known-got2 : tie.Need-enum-known-got2
-enum-known-got2 c = search needs
-
-enum-told-2 : tie.Need-enum-told-2
-enum-told-2 c = search needs
-
-cause-of-requires-2 : tie.Need-cause-of-requires-2
-cause-of-requires-2 c κs = search needs
 
 returns-3 : tie.Need-returns-3
 returns-3 c =
@@ -121,15 +100,6 @@ returns-4 c =
 read-bits-requires-3 : tie.Need-read-bits-requires-3
 read-bits-requires-3 c κs = let g = c .before .before in (omega arith, last-pair g .inside, start-last-pair g .pre .1)
 
-enum-known-got3 : tie.Need-enum-known-got3
-enum-known-got3 c = search needs
-
-enum-told-3 : tie.Need-enum-told-3
-enum-told-3 c = search needs
-
-cause-of-requires-3 : tie.Need-cause-of-requires-3
-cause-of-requires-3 c κs = search needs
-
 returns-5 : tie.Need-returns-5
 returns-5 c =
     let g2 = c .before .before .before .before .before .before in
@@ -144,15 +114,6 @@ returns-5 c =
 read-bits-requires-4 : tie.Need-read-bits-requires-4
 read-bits-requires-4 c κs = let g = c .before in (omega arith, lsb-mode g .inside, start-lsb-mode g .pre .1)
 
-enum-known-got4 : tie.Need-enum-known-got4
-enum-known-got4 c = search needs
-
-enum-told-4 : tie.Need-enum-told-4
-enum-told-4 c = search needs
-
-cause-of-requires-4 : tie.Need-cause-of-requires-4
-cause-of-requires-4 c κs = search needs
-
 returns-6 : tie.Need-returns-6
 returns-6 c =
     let g3 = c .before .before .before .before .before in
@@ -165,18 +126,6 @@ returns-6 c =
     let e = c .before .enum-told4 .given .1 in
     let r = c .before .before .before .read-bits4 .ensures .1 in
     absurd (no-cause _ _ _ _ _ r e (b .pre .1) (omega (arith, f1 .next, f2 .next, f3 .next, b .pre .0 .bandwidth, b .pre .0 .pair)))
-
-cast-t24 : tie.Need-cast-t24
-cast-t24 c = search needs
-
-add-t20 : tie.Need-add-t20
-add-t20 c = search needs
-
-mul-t21 : tie.Need-mul-t21
-mul-t21 c = search needs
-
-cast-t25 : tie.Need-cast-t25
-cast-t25 c = search needs
 
 cast-t26 : tie.Need-cast-t26
 cast-t26 c = let f = lsb-mode (to-lsb-mode (c .before)) in omega (arith, f .below)
@@ -206,34 +155,9 @@ pub read-head-spec : {M : Type 1} → statement M
 read-head-spec =
     tie.close
     (tie.spec
-    read-bits-requires
-    enum-known-got
-    enum-told
-    cause-of-requires
-    returns
-    returns-2
-    read-bits-requires-2
-    enum-known-got2
-    enum-told-2
-    cause-of-requires-2
-    returns-3
-    add-if2
-    mul-if2
-    returns-4
-    read-bits-requires-3
-    enum-known-got3
-    enum-told-3
-    cause-of-requires-3
-    returns-5
-    read-bits-requires-4
-    enum-known-got4
-    enum-told-4
-    cause-of-requires-4
-    returns-6
-    cast-t24
-    add-t20
-    mul-t21
-    cast-t25
-    cast-t26
-    cast-t27
+    (λ c κs. search needs) (λ c. search needs) (λ c. search needs) (λ c κs. search needs) returns returns-2
+    read-bits-requires-2 (λ c. search needs) (λ c. search needs) (λ c κs. search needs) returns-3 add-if2
+    mul-if2 returns-4 read-bits-requires-3 (λ c. search needs) (λ c. search needs) (λ c κs. search needs)
+    returns-5 read-bits-requires-4 (λ c. search needs) (λ c. search needs) (λ c κs. search needs) returns-6
+    (λ c. search needs) (λ c. search needs) (λ c. search needs) (λ c. search needs) cast-t26 cast-t27
     returns-7)

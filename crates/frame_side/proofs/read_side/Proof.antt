@@ -78,18 +78,6 @@ tail-is c =
 tail-good : (c : tie.After-got4) → GoodTail (to-shape c .got3 .given .0 .1 .0) (tail.Value (c .got4 .given .0 .0) (c .got4 .given .0 .1 .0))
 tail-good c = rw (c .got4 .given .1) at (c .before .before .read-tail .ensures .1)
 
-read-head-requires : tie.Need-read-head-requires
-read-head-requires c κs = search needs
-
-enum-known-got : tie.Need-enum-known-got
-enum-known-got c = search needs
-
-enum-told : tie.Need-enum-told
-enum-told c = search needs
-
-head-cause-requires : tie.Need-head-cause-requires
-head-cause-requires c κs = search needs
-
 returns : tie.Need-returns
 returns c =
     let a = c .before .before .before .before .before .args in
@@ -101,20 +89,8 @@ returns c =
       (omega (arith, e, g .0), omega (arith, e, g .1)),
     )
 
-wide-requires : tie.Need-wide-requires
-wide-requires c κs = search needs
-
 read-flags-requires : tie.Need-read-flags-requires
 read-flags-requires c κs = let g = c .before .before in (head-good g .5, start-head g .pre .1)
-
-enum-known-got2 : tie.Need-enum-known-got2
-enum-known-got2 c = search needs
-
-enum-told-2 : tie.Need-enum-told-2
-enum-told-2 c = search needs
-
-flags-cause-requires : tie.Need-flags-cause-requires
-flags-cause-requires c κs = search needs
 
 returns-2 : tie.Need-returns-2
 returns-2 c = absurd (rw (c .before .enum-told2 .given .1) at (c .before .before .before .read-flags .ensures .1))
@@ -123,15 +99,6 @@ read-shape-requires : tie.Need-read-shape-requires
 read-shape-requires c κs =
     let g = c .before in
     (omega (arith, flags-good g .3, head-good (to-head g) .5), start-flags g .pre .1)
-
-enum-known-got3 : tie.Need-enum-known-got3
-enum-known-got3 c = search needs
-
-enum-told-3 : tie.Need-enum-told-3
-enum-told-3 c = search needs
-
-shape-cause-requires : tie.Need-shape-cause-requires
-shape-cause-requires c κs = search needs
 
 returns-3 : tie.Need-returns-3
 returns-3 c =
@@ -146,9 +113,6 @@ returns-3 c =
       (omega (arith, e, k), omega (arith, e, k)),
     )
 
-wide-requires-2 : tie.Need-wide-requires-2
-wide-requires-2 c κs = search needs
-
 read-tail-requires : tie.Need-read-tail-requires
 read-tail-requires c κs =
     let g3 = c .before .before in
@@ -158,15 +122,6 @@ read-tail-requires c κs =
       omega (arith, head-good (to-head g2) .5, f .3, shape-good g3),
       start-shape g3 .pre .1,
     )
-
-enum-known-got4 : tie.Need-enum-known-got4
-enum-known-got4 c = search needs
-
-enum-told-4 : tie.Need-enum-told-4
-enum-told-4 c = search needs
-
-tail-cause-requires : tie.Need-tail-cause-requires
-tail-cause-requires c κs = search needs
 
 returns-4 : tie.Need-returns-4
 returns-4 c = absurd (rw (c .before .enum-told4 .given .1) at (c .before .before .before .read-tail .ensures .1))
@@ -188,26 +143,8 @@ pub read-side-spec : {M : Type 1} → statement M
 read-side-spec =
     tie.close
     (tie.spec
-    read-head-requires
-    enum-known-got
-    enum-told
-    head-cause-requires
-    returns
-    wide-requires
-    read-flags-requires
-    enum-known-got2
-    enum-told-2
-    flags-cause-requires
-    returns-2
-    read-shape-requires
-    enum-known-got3
-    enum-told-3
-    shape-cause-requires
-    returns-3
-    wide-requires-2
-    read-tail-requires
-    enum-known-got4
-    enum-told-4
-    tail-cause-requires
-    returns-4
-    returns-5)
+    (λ c κs. search needs) (λ c. search needs) (λ c. search needs) (λ c κs. search needs) returns
+    (λ c κs. search needs) read-flags-requires (λ c. search needs) (λ c. search needs) (λ c κs. search needs)
+    returns-2 read-shape-requires (λ c. search needs) (λ c. search needs) (λ c κs. search needs) returns-3
+    (λ c κs. search needs) read-tail-requires (λ c. search needs) (λ c. search needs) (λ c κs. search needs)
+    returns-4 returns-5)

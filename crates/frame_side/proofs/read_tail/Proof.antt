@@ -42,18 +42,6 @@ noise-level :
     → Field (now (start-noise-level c .args .s)) (to-pitch-index c .got2 .given .0 .1 .0) 3 (c .got3 .given .0 .0) (c .got3 .given .0 .1 .0)
 noise-level c = let r = c .before .before .read-bits3 in field-of _ _ _ _ _ _ (r .ensures .0) (r .ensures .1) (c .got3 .given .1)
 
-read-bits-requires : tie.Need-read-bits-requires
-read-bits-requires c κs = search needs
-
-enum-known-got : tie.Need-enum-known-got
-enum-known-got c = search needs
-
-enum-told : tie.Need-enum-told
-enum-told c = search needs
-
-cause-of-requires : tie.Need-cause-of-requires
-cause-of-requires c κs = search needs
-
 returns : tie.Need-returns
 returns c =
     let b = c .before .before .before .before .before in
@@ -61,20 +49,8 @@ returns c =
     let r = c .before .before .before .read-bits .ensures .1 in
     absurd (no-cause _ _ _ _ _ r e (b .pre .2) (omega (arith, b .pre .0, b .pre .1)))
 
-mul-read-bits : tie.Need-mul-read-bits
-mul-read-bits c = search needs
-
 read-bits-requires-2 : tie.Need-read-bits-requires-2
 read-bits-requires-2 c κs = let g = c .before in (omega arith, filter-flag g .inside, start-filter-flag g .pre .2)
-
-enum-known-got2 : tie.Need-enum-known-got2
-enum-known-got2 c = search needs
-
-enum-told-2 : tie.Need-enum-told-2
-enum-told-2 c = search needs
-
-cause-of-requires-2 : tie.Need-cause-of-requires-2
-cause-of-requires-2 c κs = search needs
 
 returns-2 : tie.Need-returns-2
 returns-2 c =
@@ -87,15 +63,6 @@ returns-2 c =
 
 read-bits-requires-3 : tie.Need-read-bits-requires-3
 read-bits-requires-3 c κs = let g = c .before in (omega arith, pitch-index g .inside, start-pitch-index g .pre .2)
-
-enum-known-got3 : tie.Need-enum-known-got3
-enum-known-got3 c = search needs
-
-enum-told-3 : tie.Need-enum-told-3
-enum-told-3 c = search needs
-
-cause-of-requires-3 : tie.Need-cause-of-requires-3
-cause-of-requires-3 c κs = search needs
 
 returns-3 : tie.Need-returns-3
 returns-3 c =
@@ -143,23 +110,7 @@ pub read-tail-spec : {M : Type 1} → statement M
 read-tail-spec =
     tie.close
     (tie.spec
-    read-bits-requires
-    enum-known-got
-    enum-told
-    cause-of-requires
-    returns
-    mul-read-bits
-    read-bits-requires-2
-    enum-known-got2
-    enum-told-2
-    cause-of-requires-2
-    returns-2
-    read-bits-requires-3
-    enum-known-got3
-    enum-told-3
-    cause-of-requires-3
-    returns-3
-    cast-t17
-    cast-t18
-    cast-t19
-    returns-4)
+    (λ c κs. search needs) (λ c. search needs) (λ c. search needs) (λ c κs. search needs) returns
+    (λ c. search needs) read-bits-requires-2 (λ c. search needs) (λ c. search needs) (λ c κs. search needs)
+    returns-2 read-bits-requires-3 (λ c. search needs) (λ c. search needs) (λ c κs. search needs) returns-3
+    cast-t17 cast-t18 cast-t19 returns-4)

@@ -11,4 +11,7 @@ returns-2 : tie.Need-returns-2
 returns-2 c = (simp (le-ltb _ _ (c .if1 .left)), omega arith)
 
 pub second-flag-spec : {M : Type 1} → statement M
-second-flag-spec = tie.close (tie.spec returns returns-2)
+second-flag-spec =
+    tie.close
+    (tie.spec
+    returns returns-2)

@@ -23,33 +23,6 @@ offset a = a .before .before .before .before .before .before
 abbrev pairs : tie.After-known-told → tie.After-read-pairs
 pairs b = b .before .before .before .before .before
 
-lookup-requires : tie.Need-lookup-requires
-lookup-requires c κs = search needs
-
-spectrum-requires : tie.Need-spectrum-requires
-spectrum-requires c κs = search needs
-
-wide-requires : tie.Need-wide-requires
-wide-requires c κs = search needs
-
-cast-last : tie.Need-cast-last
-cast-last c = search needs
-
-rate-offset-requires : tie.Need-rate-offset-requires
-rate-offset-requires c κs = search needs
-
-slice-aggregate-read-pairs : tie.Need-slice-aggregate-read-pairs
-slice-aggregate-read-pairs c = search needs
-
-slice-aggregate-read-pairs-2 : tie.Need-slice-aggregate-read-pairs-2
-slice-aggregate-read-pairs-2 c = search needs
-
-slice-aggregate-read-pairs-3 : tie.Need-slice-aggregate-read-pairs-3
-slice-aggregate-read-pairs-3 c = search needs
-
-slice-aggregate-read-pairs-4 : tie.Need-slice-aggregate-read-pairs-4
-slice-aggregate-read-pairs-4 c = search needs
-
 read-pairs-requires : tie.Need-read-pairs-requires
 read-pairs-requires c κs =
     let o = c .before .before .before .before .before in
@@ -69,15 +42,6 @@ read-pairs-requires c κs =
       roomy-zeros _ 400 200,
       lookups _ l,
     )
-
-enum-known-got : tie.Need-enum-known-got
-enum-known-got c = search needs
-
-enum-told : tie.Need-enum-told
-enum-told c = search needs
-
-pairs-cause-requires : tie.Need-pairs-cause-requires
-pairs-cause-requires c κs = search needs
 
 -- the pairs: the definition's, and as they were read
 abbrev asked : tie.After-read-pairs → Read Streams Spectrum
@@ -113,15 +77,6 @@ bits-left-requires c κs =
     let g = rw (c .before .got .given .1) at (c .before .before .before .before .before .read-pairs .ensures .1) in
     (entry (offset (pairs c)) .pre .1 .most, g .1, g .2 .at, g .2 .end, g .2 .range)
 
-enum-known-got2 : tie.Need-enum-known-got2
-enum-known-got2 c = search needs
-
-enum-told-2 : tie.Need-enum-told-2
-enum-told-2 c = search needs
-
-left-cause-requires : tie.Need-left-cause-requires
-left-cause-requires c κs = search needs
-
 returns-2 : tie.Need-returns-2
 returns-2 c =
     let b = c .before .before .before .before in
@@ -129,12 +84,6 @@ returns-2 c =
     let i = c .before .enum-told2 .given .1 in
     let e = left-refused _ _ _ _ _ _ _ _ (l .result) _ _ (taken b) (l .ensures .0) i (c .left-cause .ensures) (l .ensures .1) in
     (e .0, ((refl, refl), e .1))
-
-slice-aggregate-finish : tie.Need-slice-aggregate-finish
-slice-aggregate-finish c = search needs
-
-slice-aggregate-finish-2 : tie.Need-slice-aggregate-finish-2
-slice-aggregate-finish-2 c = search needs
 
 finish-requires : tie.Need-finish-requires
 finish-requires c κs =
@@ -162,15 +111,6 @@ cast-symbols c =
     let g = rw (b .before .got .given .1) at (b .before .before .before .before .before .read-pairs .ensures .1) in
     record { fits = omega (arith, g .0, z .0 .lines, z .2, z .6) }
 
-cast-number : tie.Need-cast-number
-cast-number c = search needs
-
-same-length : tie.Need-same-length
-same-length c = search needs
-
-same-length-2 : tie.Need-same-length-2
-same-length-2 c = search needs
-
 returns-3 : tie.Need-returns-3
 returns-3 c =
     let f = c .before .before .before .before .before .finish in
@@ -192,30 +132,9 @@ pub read-spectral-spec : {M : Type 1} → statement M
 read-spectral-spec =
     tie.close
     (tie.spec
-    lookup-requires
-    spectrum-requires
-    wide-requires
-    cast-last
-    rate-offset-requires
-    slice-aggregate-read-pairs
-    slice-aggregate-read-pairs-2
-    slice-aggregate-read-pairs-3
-    slice-aggregate-read-pairs-4
-    read-pairs-requires
-    enum-known-got
-    enum-told
-    pairs-cause-requires
-    returns
-    bits-left-requires
-    enum-known-got2
-    enum-told-2
-    left-cause-requires
-    returns-2
-    slice-aggregate-finish
-    slice-aggregate-finish-2
-    finish-requires
-    cast-symbols
-    cast-number
-    same-length
-    same-length-2
-    returns-3)
+    (λ c κs. search needs) (λ c κs. search needs) (λ c κs. search needs) (λ c. search needs)
+    (λ c κs. search needs) (λ c. search needs) (λ c. search needs) (λ c. search needs) (λ c. search needs)
+    read-pairs-requires (λ c. search needs) (λ c. search needs) (λ c κs. search needs) returns
+    bits-left-requires (λ c. search needs) (λ c. search needs) (λ c κs. search needs) returns-2
+    (λ c. search needs) (λ c. search needs) finish-requires cast-symbols (λ c. search needs)
+    (λ c. search needs) (λ c. search needs) returns-3)

@@ -23,27 +23,12 @@ loop-holds c =
     let a = h .args in
     (omega arith, h .pre .3, h .pre .4, omega arith, coefficients-all (a .s .now) (a .rows .now) (a .n) (a .out .now) (a .first))
 
-mul-decode : tie.Need-mul-decode Inv-loop μ-loop
-mul-decode c = search needs
-
 decode-requires : tie.Need-decode-requires Inv-loop μ-loop
 decode-requires c κs =
     let h = c .before in
     let p = h .before .before .before .before .pre in
     let i = h .loop .inv in
     (p .0, p .1 (h .loop .k) (omega arith), omega arith, omega arith, i .2, omega arith)
-
-enum-known-got : tie.Need-enum-known-got Inv-loop μ-loop
-enum-known-got c = search needs
-
-enum-told : tie.Need-enum-told Inv-loop μ-loop
-enum-told c = search needs
-
-symbol-cause-requires : tie.Need-symbol-cause-requires Inv-loop μ-loop
-symbol-cause-requires c κs = search needs
-
-same-length : tie.Need-same-length Inv-loop μ-loop
-same-length c = search needs
 
 returns : tie.Need-returns Inv-loop μ-loop
 returns c =
@@ -64,15 +49,6 @@ cast-out c =
     let m = g .0 in
     record { fits = omega arith }
 
-slice-write-out : tie.Need-slice-write-out Inv-loop μ-loop
-slice-write-out c = search needs
-
-add-k : tie.Need-add-k Inv-loop μ-loop
-add-k c = search needs
-
-loop-less : tie.Need-loop-less Inv-loop μ-loop
-loop-less c = search needs
-
 loop-again : tie.Need-loop-again Inv-loop μ-loop
 loop-again c =
     let d = c .before .before .before in
@@ -90,9 +66,6 @@ loop-again c =
       coefficients-more (a .s .now) (a .rows .now) (a .n) (l .k) (l .out) (l .c) _ _ (d .before .loop-test .taken) f ∙ l .inv .4,
     )
 
-same-length-2 : tie.Need-same-length-2 Inv-loop μ-loop
-same-length-2 c = search needs
-
 returns-2 : tie.Need-returns-2 Inv-loop μ-loop
 returns-2 c =
     let h = c .before in
@@ -104,20 +77,6 @@ pub coefficients-spec : {M : Type 1} → statement M
 coefficients-spec =
     tie.close
     (tie.spec
-    Inv-loop
-    μ-loop
-    loop-holds
-    mul-decode
-    decode-requires
-    enum-known-got
-    enum-told
-    symbol-cause-requires
-    same-length
-    returns
-    cast-out
-    slice-write-out
-    add-k
-    loop-less
-    loop-again
-    same-length-2
-    returns-2)
+    Inv-loop μ-loop loop-holds (λ c. search needs) decode-requires (λ c. search needs) (λ c. search needs)
+    (λ c κs. search needs) (λ c. search needs) returns cast-out (λ c. search needs) (λ c. search needs)
+    (λ c. search needs) loop-again (λ c. search needs) returns-2)

@@ -16,23 +16,11 @@ returns c =
     let f = sym (filter-unused (a .s .now) (a .orders .now) (a .rows .now) (a .w) (a .flag) (a .c) (c .if1 .taken)) in
     (rw (h .pre .3) f, (omega arith, omega arith, h .pre .4))
 
-mul-decode : tie.Need-mul-decode
-mul-decode c = search needs
-
 decode-requires : tie.Need-decode-requires
 decode-requires c κs =
     let h = c .before .before .before .before .before in
     let p = h .pre in
     (p .0, p .1 .order (h .args .w) (p .2), omega arith, omega arith, p .4, omega arith)
-
-enum-known-got : tie.Need-enum-known-got
-enum-known-got c = search needs
-
-enum-told : tie.Need-enum-told
-enum-told c = search needs
-
-symbol-cause-requires : tie.Need-symbol-cause-requires
-symbol-cause-requires c κs = search needs
 
 returns-2 : tie.Need-returns-2
 returns-2 c =
@@ -62,18 +50,6 @@ coefficients-requires c κs =
     let t = g .1 in
     (p .0, p .1 .coefficient, omega arith, ap length (p .3), g .2, omega arith)
 
-enum-known-got2 : tie.Need-enum-known-got2
-enum-known-got2 c = search needs
-
-enum-told-2 : tie.Need-enum-told-2
-enum-told-2 c = search needs
-
-coefficients-cause-requires : tie.Need-coefficients-cause-requires
-coefficients-cause-requires c κs = search needs
-
-same-length : tie.Need-same-length
-same-length c = search needs
-
 returns-3 : tie.Need-returns-3
 returns-3 c =
     let q = c .before .before .before .before .before in
@@ -92,9 +68,6 @@ add-t14 c = let m = order (c .before .before .before .before .before .before .be
 
 cast-t19 : tie.Need-cast-t19
 cast-t19 c = let m = order (c .before .before .before .before .before .before .before) .0 in record { fits = omega arith }
-
-same-length-2 : tie.Need-same-length-2
-same-length-2 c = search needs
 
 returns-4 : tie.Need-returns-4
 returns-4 c =
@@ -116,21 +89,6 @@ pub filter-spec : {M : Type 1} → statement M
 filter-spec =
     tie.close
     (tie.spec
-    returns
-    mul-decode
-    decode-requires
-    enum-known-got
-    enum-told
-    symbol-cause-requires
-    returns-2
-    add-coefficients
-    coefficients-requires
-    enum-known-got2
-    enum-told-2
-    coefficients-cause-requires
-    same-length
-    returns-3
-    add-t14
-    cast-t19
-    same-length-2
-    returns-4)
+    returns (λ c. search needs) decode-requires (λ c. search needs) (λ c. search needs) (λ c κs. search needs)
+    returns-2 add-coefficients coefficients-requires (λ c. search needs) (λ c. search needs)
+    (λ c κs. search needs) (λ c. search needs) returns-3 add-t14 cast-t19 (λ c. search needs) returns-4)

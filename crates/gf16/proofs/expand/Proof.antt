@@ -7,27 +7,6 @@ use Rattle.gf16.specs.Field.{expanded}
 use Rattle.gf16.proofs.expand.Statement.{statement}
 use Rattle.gf16.proofs.expand.Tie as tie
 
-term-requires : tie.Need-term-requires
-term-requires c κs = search needs
-
-mul-term : tie.Need-mul-term
-mul-term c = search needs
-
-term-requires-2 : tie.Need-term-requires-2
-term-requires-2 c κs = search needs
-
-mul-term-2 : tie.Need-mul-term-2
-mul-term-2 c = search needs
-
-term-requires-3 : tie.Need-term-requires-3
-term-requires-3 c κs = search needs
-
-mul-term-3 : tie.Need-mul-term-3
-mul-term-3 c = search needs
-
-term-requires-4 : tie.Need-term-requires-4
-term-requires-4 c κs = search needs
-
 returns : tie.Need-returns
 unfolding expanded
 returns c =
@@ -39,11 +18,5 @@ pub expand-spec : {M : Type 1} → statement M
 expand-spec =
     tie.close
     (tie.spec
-    term-requires
-    mul-term
-    term-requires-2
-    mul-term-2
-    term-requires-3
-    mul-term-3
-    term-requires-4
-    returns)
+    (λ c κs. search needs) (λ c. search needs) (λ c κs. search needs) (λ c. search needs)
+    (λ c κs. search needs) (λ c. search needs) (λ c κs. search needs) returns)

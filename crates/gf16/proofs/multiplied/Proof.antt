@@ -5,14 +5,11 @@ use Rattle.gf16.specs.Field.{reduced}
 use Rattle.gf16.proofs.multiplied.Statement.{statement}
 use Rattle.gf16.proofs.multiplied.Tie as tie
 
-expand-requires : tie.Need-expand-requires
-expand-requires c κs = search needs
-
-reduce-requires : tie.Need-reduce-requires
-reduce-requires c κs = search needs
-
 returns : tie.Need-returns
 returns c = c .reduce .ensures ∙ ap reduced (c .before .expand .ensures .0)
 
 pub multiplied-spec : {M : Type 1} → statement M
-multiplied-spec = tie.close (tie.spec expand-requires reduce-requires returns)
+multiplied-spec =
+    tie.close
+    (tie.spec
+    (λ c κs. search needs) (λ c κs. search needs) returns)

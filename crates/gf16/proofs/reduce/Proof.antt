@@ -27,4 +27,7 @@ unfolding reduced lowered
 returns c = refl
 
 pub reduce-spec : {M : Type 1} → statement M
-reduce-spec = tie.close (tie.spec mul-w mul-x mul-result returns)
+reduce-spec =
+    tie.close
+    (tie.spec
+    mul-w mul-x mul-result returns)

@@ -12,4 +12,7 @@ returns : tie.Need-returns
 returns c = (refl, digit-lt (c .args .d) (c .args .a) 128 (omega arith) (omega arith))
 
 pub term-spec : {M : Type 1} → statement M
-term-spec = tie.close (tie.spec mul-result returns)
+term-spec =
+    tie.close
+    (tie.spec
+    mul-result returns)

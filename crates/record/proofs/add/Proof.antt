@@ -62,26 +62,11 @@ known c =
     let s = call-of t in
     used-known (lent s) (s .args .used) (given s) (s .args .length) (ok t .inside) (bytes t) (c .before .walked .given .0 .0) (c .before .walked .given .0 .1 .0) (whole c)
 
-may-add-requires : tie.Need-may-add-requires
-may-add-requires c κs = search needs
-
 slice-reshare-prefix-walk : tie.Need-slice-reshare-prefix-walk
 slice-reshare-prefix-walk c = ok c .inside
 
 slice-aggregate-walk : tie.Need-slice-aggregate-walk
 slice-aggregate-walk c = sym (length-take-le (c .before .before .before .before .before .args .used) (lent (c .before .before .before .before .before)) (ok (c .before) .inside))
-
-walk-requires : tie.Need-walk-requires
-walk-requires c κs = search needs
-
-enum-known-walked : tie.Need-enum-known-walked
-enum-known-walked c = search needs
-
-enum-told : tie.Need-enum-told
-enum-told c = search needs
-
-same-length : tie.Need-same-length
-same-length c = search needs
 
 returns : tie.Need-returns
 returns c =
@@ -99,17 +84,11 @@ add-end-2 c =
     let a = ok (c .before .before .before .before .before) in
     omega arith
 
-same-length-2 : tie.Need-same-length-2
-same-length-2 c = search needs
-
 returns-2 : tie.Need-returns-2
 returns-2 c =
     let s = c .before .before .before .before .before .before .before .before .before .before in
     let r = add-full (lent s) (s .args .used) (given s) (s .args .length) (may (c .before .before .before .before .before .before)) (bytes (c .before .before .before .before .before .before)) (c .before .before .walked .given .0 .0) (c .before .before .walked .given .0 .1 .0) (whole (c .before)) (room-buffer (lent s) (s .args .used) (given s) (s .args .length) (c .if2 .taken)) in
     (r .0, (r .1, refl))
-
-same-length-3 : tie.Need-same-length-3
-same-length-3 c = search needs
 
 returns-3 : tie.Need-returns-3
 returns-3 c =
@@ -133,15 +112,6 @@ tail-requires c κs =
     let a = ok (c .before .before .before .before .before .before .before) in
     (omega arith, omega arith)
 
-copy-in-requires : tie.Need-copy-in-requires
-copy-in-requires c κs = search needs
-
-add-copy-in : tie.Need-add-copy-in
-add-copy-in c = search needs
-
-slice-aggregate-copy-in : tie.Need-slice-aggregate-copy-in
-slice-aggregate-copy-in c = search needs
-
 copy-in-requires-2 : tie.Need-copy-in-requires-2
 copy-in-requires-2 c κs =
     let s = c .before .before .before .before .before .before .before .before .before .before .before .before .before .before .before .before .before .before in
@@ -149,12 +119,6 @@ copy-in-requires-2 c κs =
     let k = known (c .before .before .before .before .before .before .before .before .before) in
     let t : length (c .before .before .before .before .before .before .tail .result) ≡ 8 = ap length (c .before .before .before .before .before .before .tail .ensures) ∙ length-tail _ _ _ _ in
     omega arith
-
-cast-t22 : tie.Need-cast-t22
-cast-t22 c = search needs
-
-same-length-4 : tie.Need-same-length-4
-same-length-4 c = search needs
 
 returns-4 : tie.Need-returns-4
 returns-4 c =
@@ -180,28 +144,8 @@ pub add-spec : {M : Type 1} → statement M
 add-spec =
     tie.close
     (tie.spec
-    may-add-requires
-    slice-reshare-prefix-walk
-    slice-aggregate-walk
-    walk-requires
-    enum-known-walked
-    enum-told
-    same-length
-    returns
-    add-end
-    add-end-2
-    same-length-2
-    returns-2
-    same-length-3
-    returns-3
-    sub-at
-    add-tail
-    tail-requires
-    copy-in-requires
-    add-copy-in
-    slice-aggregate-copy-in
-    copy-in-requires-2
-    cast-t22
-    same-length-4
-    returns-4
-    returns-5)
+    (λ c κs. search needs) slice-reshare-prefix-walk slice-aggregate-walk (λ c κs. search needs)
+    (λ c. search needs) (λ c. search needs) (λ c. search needs) returns add-end add-end-2 (λ c. search needs)
+    returns-2 (λ c. search needs) returns-3 sub-at add-tail tail-requires (λ c κs. search needs)
+    (λ c. search needs) (λ c. search needs) copy-in-requires-2 (λ c. search needs) (λ c. search needs)
+    returns-4 returns-5)

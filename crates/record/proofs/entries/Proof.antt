@@ -8,15 +8,6 @@ use Rattle.record.proofs.Theorems.{count-means, none-means}
 use Rattle.record.proofs.Answered.{counted, uncounted}
 use Rattle.record.proofs.entries.Statement.{statement}
 
-walk-requires : tie.Need-walk-requires
-walk-requires c κs = search needs
-
-enum-known-walked : tie.Need-enum-known-walked
-enum-known-walked c = search needs
-
-enum-told : tie.Need-enum-told
-enum-told c = search needs
-
 returns : tie.Need-returns
 returns c =
     let k = c .before .walked .given in
@@ -31,4 +22,7 @@ returns-2 c =
     (uncounted s 0 w, none-means s w)
 
 pub entries-spec : {M : Type 1} → statement M
-entries-spec = tie.close (tie.spec walk-requires enum-known-walked enum-told returns returns-2)
+entries-spec =
+    tie.close
+    (tie.spec
+    (λ c κs. search needs) (λ c. search needs) (λ c. search needs) returns returns-2)

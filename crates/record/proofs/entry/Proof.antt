@@ -7,20 +7,8 @@ use Rattle.record.proofs.entry.Tie as tie
 use Rattle.record.proofs.Answered.{found, past, unfound}
 use Rattle.record.proofs.entry.Statement.{statement}
 
-walk-requires : tie.Need-walk-requires
-walk-requires c κs = search needs
-
-enum-known-walked : tie.Need-enum-known-walked
-enum-known-walked c = search needs
-
-enum-told : tie.Need-enum-told
-enum-told c = search needs
-
 returns : tie.Need-returns
 returns c = unfound (now (c .before .before .before .before .args .bytes)) (c .before .before .before .before .args .place) (sym (c .before .before .walk .ensures) ∙ c .enum-told .given .1)
-
-wide4-requires : tie.Need-wide4-requires
-wide4-requires c κs = search needs
 
 returns-2 : tie.Need-returns-2
 returns-2 c =
@@ -35,4 +23,6 @@ returns-3 c =
 pub entry-spec : {M : Type 1} → statement M
 entry-spec =
     tie.close
-    (tie.spec walk-requires enum-known-walked enum-told returns wide4-requires returns-2 returns-3)
+    (tie.spec
+    (λ c κs. search needs) (λ c. search needs) (λ c. search needs) returns (λ c κs. search needs) returns-2
+    returns-3)

@@ -18,41 +18,8 @@ stands c =
     frame-found (now (a .bytes)) (a .place) (v .0 .0) (λ i. omega (arith, c .before .before .before .before .before .before .shared-slice-known .given i))
     (sym (ap foundAnswer (v .1)) ∙ c .before .before .before .before .before .entry .ensures)
 
-entry-requires : tie.Need-entry-requires
-entry-requires c κs = search needs
-
-enum-known-found : tie.Need-enum-known-found
-enum-known-found c = search needs
-
-wide4-requires : tie.Need-wide4-requires
-wide4-requires c κs = search needs
-
-wide2-requires : tie.Need-wide2-requires
-wide2-requires c κs = search needs
-
-add-end : tie.Need-add-end
-add-end c = search needs
-
-sub-result : tie.Need-sub-result
-sub-result c = search needs
-
-part-result-start : tie.Need-part-result-start
-part-result-start c = search needs
-
 part-result-end : tie.Need-part-result-end
 part-result-end c = omega (arith, stands c .within, c .before .wide4 .ensures, c .wide2 .ensures)
-
-enum-told : tie.Need-enum-told
-enum-told c = search needs
-
-slice-aggregate-result : tie.Need-slice-aggregate-result
-slice-aggregate-result c = search needs
-
-enum-told-2 : tie.Need-enum-told-2
-enum-told-2 c = search needs
-
-slice-aggregate-result-2 : tie.Need-slice-aggregate-result-2
-slice-aggregate-result-2 c = search needs
 
 returns : tie.Need-returns
 returns c =
@@ -73,18 +40,6 @@ pub frame-spec : {M : Type 1} → statement M
 frame-spec =
     tie.close
     (tie.spec
-    entry-requires
-    enum-known-found
-    wide4-requires
-    wide2-requires
-    add-end
-    sub-result
-    part-result-start
-    part-result-end
-    enum-told
-    slice-aggregate-result
-    enum-told-2
-    slice-aggregate-result-2
-    returns
-    returns-2
-    returns-3)
+    (λ c κs. search needs) (λ c. search needs) (λ c κs. search needs) (λ c κs. search needs)
+    (λ c. search needs) (λ c. search needs) (λ c. search needs) part-result-end (λ c. search needs)
+    (λ c. search needs) (λ c. search needs) (λ c. search needs) returns returns-2 returns-3)

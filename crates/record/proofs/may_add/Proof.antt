@@ -6,21 +6,6 @@ use Rattle.record.proofs.may_add.Tie as tie
 use Rattle.record.proofs.Answered.{may-add-above, may-add-most, may-add-yes, may-add-other}
 use Rattle.record.proofs.may_add.Statement.{statement}
 
-wide4-requires : tie.Need-wide4-requires
-wide4-requires c κs = search needs
-
-wide4-requires-2 : tie.Need-wide4-requires-2
-wide4-requires-2 c κs = search needs
-
-wide4-requires-3 : tie.Need-wide4-requires-3
-wide4-requires-3 c κs = search needs
-
-wide4-requires-4 : tie.Need-wide4-requires-4
-wide4-requires-4 c κs = search needs
-
-in-range-requires : tie.Need-in-range-requires
-in-range-requires c κs = search needs
-
 returns : tie.Need-returns
 returns c =
     let a = c .before .before .before .before .before .before .before .before .args in
@@ -45,12 +30,5 @@ pub may-add-spec : {M : Type 1} → statement M
 may-add-spec =
     tie.close
     (tie.spec
-    wide4-requires
-    wide4-requires-2
-    wide4-requires-3
-    wide4-requires-4
-    in-range-requires
-    returns
-    returns-2
-    returns-3
-    returns-4)
+    (λ c κs. search needs) (λ c κs. search needs) (λ c κs. search needs) (λ c κs. search needs)
+    (λ c κs. search needs) returns returns-2 returns-3 returns-4)

@@ -16,45 +16,6 @@ returns c =
     let a = c .before .before .args in
     sym (step-short (now (a .bytes)) (a .end) (c .if1 .taken))
 
-shared-slice-read-request : tie.Need-shared-slice-read-request
-shared-slice-read-request c = search needs
-
-sub-count : tie.Need-sub-count
-sub-count c = search needs
-
-shared-slice-read-count : tie.Need-shared-slice-read-count
-shared-slice-read-count c = search needs
-
-sub-number2 : tie.Need-sub-number2
-sub-number2 c = search needs
-
-number2-requires : tie.Need-number2-requires
-number2-requires c κs = search needs
-
-wide-requires : tie.Need-wide-requires
-wide-requires c κs = search needs
-
-wide-requires-2 : tie.Need-wide-requires-2
-wide-requires-2 c κs = search needs
-
-in-range-requires : tie.Need-in-range-requires
-in-range-requires c κs = search needs
-
-add-if3 : tie.Need-add-if3
-add-if3 c = search needs
-
-add-start : tie.Need-add-start
-add-start c = search needs
-
-sub-start : tie.Need-sub-start
-sub-start c = search needs
-
-cast-t19 : tie.Need-cast-t19
-cast-t19 c = search needs
-
-cast-t20 : tie.Need-cast-t20
-cast-t20 c = search needs
-
 returns-2 : tie.Need-returns-2
 returns-2 c =
     let i = c .before .before in
@@ -83,20 +44,7 @@ pub entry-before-spec : {M : Type 1} → statement M
 entry-before-spec =
     tie.close
     (tie.spec
-    returns
-    shared-slice-read-request
-    sub-count
-    shared-slice-read-count
-    sub-number2
-    number2-requires
-    wide-requires
-    wide-requires-2
-    in-range-requires
-    add-if3
-    add-start
-    sub-start
-    cast-t19
-    cast-t20
-    returns-2
-    returns-3
-    returns-4)
+    returns (λ c. search needs) (λ c. search needs) (λ c. search needs) (λ c. search needs)
+    (λ c κs. search needs) (λ c κs. search needs) (λ c κs. search needs) (λ c κs. search needs)
+    (λ c. search needs) (λ c. search needs) (λ c. search needs) (λ c. search needs) (λ c. search needs)
+    returns-2 returns-3 returns-4)

@@ -36,4 +36,7 @@ returns-5 c =
     simp (lt-leb (a .request) 3 (omega arith))
 
 pub in-range-spec : {M : Type 1} → statement M
-in-range-spec = tie.close (tie.spec returns returns-2 returns-3 returns-4 returns-5)
+in-range-spec =
+    tie.close
+    (tie.spec
+    returns returns-2 returns-3 returns-4 returns-5)

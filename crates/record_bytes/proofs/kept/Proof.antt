@@ -10,4 +10,7 @@ returns-2 : tie.Need-returns-2
 returns-2 c = simp (ne-eqb _ _ (c .if1 .left))
 
 pub kept-spec : {M : Type 1} → statement M
-kept-spec = tie.close (tie.spec returns returns-2)
+kept-spec =
+    tie.close
+    (tie.spec
+    returns returns-2)

@@ -25,22 +25,10 @@ returns-2 c =
     let a = c .before .before .before .args in
     sym (walk-long (now (a .bytes)) (a .place) (omega arith))
 
-number4-requires : tie.Need-number4-requires Inv-loop μ-loop
-number4-requires c κs = search needs
-
 loop-holds : tie.Need-loop-holds Inv-loop μ-loop
 loop-holds c =
     let a = c .before .before .before .before .args in
     (omega arith, omega arith, walk-start (now (a .bytes)) _ (c .number4 .result) (a .place) (omega arith) (omega arith) refl (c .number4 .ensures .0))
-
-entry-before-requires : tie.Need-entry-before-requires Inv-loop μ-loop
-entry-before-requires c κs = search needs
-
-enum-known-step : tie.Need-enum-known-step Inv-loop μ-loop
-enum-known-step c = search needs
-
-enum-told : tie.Need-enum-told Inv-loop μ-loop
-enum-told c = search needs
 
 returns-3 : tie.Need-returns-3 Inv-loop μ-loop
 returns-3 c =
@@ -48,18 +36,6 @@ returns-3 c =
     let l = c .before .before .before .before .loop in
     sym (walk-stop (now (a .bytes)) (l .end) (l .left) (a .place) (c .before .before .before .before .before .number4 .result) (l .found) (omega arith) (l .inv .2)
     (sym (c .before .before .entry-before .ensures) ∙ c .enum-told .given .1))
-
-sub-left : tie.Need-sub-left Inv-loop μ-loop
-sub-left c = search needs
-
-kept-requires : tie.Need-kept-requires Inv-loop μ-loop
-kept-requires c κs = search needs
-
-wide4-requires : tie.Need-wide4-requires Inv-loop μ-loop
-wide4-requires c κs = search needs
-
-loop-less : tie.Need-loop-less Inv-loop μ-loop
-loop-less c = search needs
 
 loop-again : tie.Need-loop-again Inv-loop μ-loop
 loop-again c =
@@ -70,9 +46,6 @@ loop-again c =
     (sym (c .before .before .before .before .before .entry-before .ensures) ∙ c .before .before .before .step .given .1) in
     let low = t .lower in
     (omega arith, omega arith, rw (c .wide4 .ensures, c .before .kept .ensures) (t .walking))
-
-cast-t13 : tie.Need-cast-t13 Inv-loop μ-loop
-cast-t13 c = search needs
 
 returns-4 : tie.Need-returns-4 Inv-loop μ-loop
 returns-4 c =
@@ -90,21 +63,6 @@ pub walk-spec : {M : Type 1} → statement M
 walk-spec =
     tie.close
     (tie.spec
-    Inv-loop
-    μ-loop
-    returns
-    returns-2
-    number4-requires
-    loop-holds
-    entry-before-requires
-    enum-known-step
-    enum-told
-    returns-3
-    sub-left
-    kept-requires
-    wide4-requires
-    loop-less
-    loop-again
-    cast-t13
-    returns-4
-    returns-5)
+    Inv-loop μ-loop returns returns-2 (λ c κs. search needs) loop-holds (λ c κs. search needs)
+    (λ c. search needs) (λ c. search needs) returns-3 (λ c. search needs) (λ c κs. search needs)
+    (λ c κs. search needs) (λ c. search needs) loop-again (λ c. search needs) returns-4 returns-5)

@@ -17,39 +17,12 @@ use Rattle.record_listing.proofs.list.Statement.{statement}
 returns : tie.Need-returns
 returns c = list-short (now (c .before .before .before .args .bytes)) (now (c .before .before .before .args .out)) (c .if1 .taken)
 
-slice-aggregate-put-text : tie.Need-slice-aggregate-put-text
-slice-aggregate-put-text c = search needs
-
-put-text-requires : tie.Need-put-text-requires
-put-text-requires c κs = search needs
-
-same-length : tie.Need-same-length
-same-length c = search needs
-
 returns-2 : tie.Need-returns-2
 returns-2 c =
     let s = now (c .before .before .before .before .before .before .before .before .before .args .bytes) in
     let o = now (c .before .before .before .before .before .before .before .before .before .args .out) in
     let p = c .before .before .put-text in
     list-placed s o (p .last .0) tooLong (p .result) (omega arith) (listing-long s (c .before .before .before .before .before .if2 .taken)) (p .ensures)
-
-entries-requires : tie.Need-entries-requires
-entries-requires c κs = search needs
-
-enum-known-counted : tie.Need-enum-known-counted
-enum-known-counted c = search needs
-
-enum-told : tie.Need-enum-told
-enum-told c = search needs
-
-slice-aggregate-put-text-2 : tie.Need-slice-aggregate-put-text-2
-slice-aggregate-put-text-2 c = search needs
-
-put-text-requires-2 : tie.Need-put-text-requires-2
-put-text-requires-2 c κs = search needs
-
-same-length-2 : tie.Need-same-length-2
-same-length-2 c = search needs
 
 returns-3 : tie.Need-returns-3
 returns-3 c =
@@ -59,27 +32,9 @@ returns-3 c =
     let none : refused 7 ≡ entriesAnswer s = sym (ap countedAnswer (c .before .before .before .before .before .enum-told .given .1)) ∙ c .before .before .before .before .before .before .before .entries .ensures .0 in
     list-placed s o (p .last .0) damaged (p .result) (omega arith) (listing-damaged s (omega arith) none) (p .ensures)
 
-wide4-requires : tie.Need-wide4-requires
-wide4-requires c κs = search needs
-
 put-lines-requires : tie.Need-put-lines-requires
 put-lines-requires c κs =
     (ap accepted (c .before .wide4 .ensures) ∙ sym (ap countedAnswer (c .before .before .before .counted .given .1)) ∙ c .before .before .before .before .before .entries .ensures .0, omega arith)
-
-wide4-requires-2 : tie.Need-wide4-requires-2
-wide4-requires-2 c κs = search needs
-
-put-field-requires : tie.Need-put-field-requires
-put-field-requires c κs = search needs
-
-slice-aggregate-put-text-3 : tie.Need-slice-aggregate-put-text-3
-slice-aggregate-put-text-3 c = search needs
-
-put-text-requires-3 : tie.Need-put-text-requires-3
-put-text-requires-3 c κs = search needs
-
-same-length-3 : tie.Need-same-length-3
-same-length-3 c = search needs
 
 returns-4 : tie.Need-returns-4
 returns-4 c =
@@ -99,23 +54,7 @@ pub list-spec : {M : Type 1} → statement M
 list-spec =
     tie.close
     (tie.spec
-    returns
-    slice-aggregate-put-text
-    put-text-requires
-    same-length
-    returns-2
-    entries-requires
-    enum-known-counted
-    enum-told
-    slice-aggregate-put-text-2
-    put-text-requires-2
-    same-length-2
-    returns-3
-    wide4-requires
-    put-lines-requires
-    wide4-requires-2
-    put-field-requires
-    slice-aggregate-put-text-3
-    put-text-requires-3
-    same-length-3
-    returns-4)
+    returns (λ c. search needs) (λ c κs. search needs) (λ c. search needs) returns-2 (λ c κs. search needs)
+    (λ c. search needs) (λ c. search needs) (λ c. search needs) (λ c κs. search needs) (λ c. search needs)
+    returns-3 (λ c κs. search needs) put-lines-requires (λ c κs. search needs) (λ c κs. search needs)
+    (λ c. search needs) (λ c κs. search needs) (λ c. search needs) returns-4)

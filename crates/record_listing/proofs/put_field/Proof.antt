@@ -9,23 +9,8 @@ use Rattle.record_listing.proofs.put_field.Tie as tie
 use Rattle.record_listing.proofs.Spelling.{placed-length, field-placed}
 use Rattle.record_listing.proofs.put_field.Statement.{statement}
 
-sub-out : tie.Need-sub-out
-sub-out c = search needs
-
-slice-write-out : tie.Need-slice-write-out
-slice-write-out c = search needs
-
-digit-requires : tie.Need-digit-requires
-digit-requires c κs = search needs
-
-sub-out-2 : tie.Need-sub-out-2
-sub-out-2 c = search needs
-
 slice-write-out-2 : tie.Need-slice-write-out-2
 slice-write-out-2 c = simp length-set (omega arith)
-
-sub-put-digits : tie.Need-sub-put-digits
-sub-put-digits c = search needs
 
 put-digits-requires : tie.Need-put-digits-requires
 put-digits-requires c κs = (omega arith, simp length-set (omega arith), omega arith)
@@ -50,12 +35,5 @@ pub put-field-spec : {M : Type 1} → statement M
 put-field-spec =
     tie.close
     (tie.spec
-    sub-out
-    slice-write-out
-    digit-requires
-    sub-out-2
-    slice-write-out-2
-    sub-put-digits
-    put-digits-requires
-    same-length
-    returns)
+    (λ c. search needs) (λ c. search needs) (λ c κs. search needs) (λ c. search needs) slice-write-out-2
+    (λ c. search needs) put-digits-requires same-length returns)

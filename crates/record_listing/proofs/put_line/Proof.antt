@@ -6,30 +6,6 @@ use Rattle.record_listing.proofs.put_line.Tie as tie
 use Rattle.record_listing.proofs.Lines.{line-placed}
 use Rattle.record_listing.proofs.put_line.Statement.{statement}
 
-wide-requires : tie.Need-wide-requires
-wide-requires c κs = search needs
-
-put-field-requires : tie.Need-put-field-requires
-put-field-requires c κs = search needs
-
-wide-requires-2 : tie.Need-wide-requires-2
-wide-requires-2 c κs = search needs
-
-put-field-requires-2 : tie.Need-put-field-requires-2
-put-field-requires-2 c κs = search needs
-
-wide2-requires : tie.Need-wide2-requires
-wide2-requires c κs = search needs
-
-put-field-requires-3 : tie.Need-put-field-requires-3
-put-field-requires-3 c κs = search needs
-
-put-field-requires-4 : tie.Need-put-field-requires-4
-put-field-requires-4 c κs = search needs
-
-same-length : tie.Need-same-length
-same-length c = search needs
-
 returns : tie.Need-returns
 returns c =
     let a = c .before .before .before .before .before .before .before .before .before .before .before .before .before .before .before .before .before .before .before .before .args in
@@ -47,12 +23,5 @@ pub put-line-spec : {M : Type 1} → statement M
 put-line-spec =
     tie.close
     (tie.spec
-    wide-requires
-    put-field-requires
-    wide-requires-2
-    put-field-requires-2
-    wide2-requires
-    put-field-requires-3
-    put-field-requires-4
-    same-length
-    returns)
+    (λ c κs. search needs) (λ c κs. search needs) (λ c κs. search needs) (λ c κs. search needs)
+    (λ c κs. search needs) (λ c κs. search needs) (λ c κs. search needs) (λ c. search needs) returns)

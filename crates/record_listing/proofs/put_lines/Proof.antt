@@ -41,12 +41,6 @@ entry-before-requires c κs =
     let i = c .before .loop .inv in
     (i .2, omega arith)
 
-enum-known-step : tie.Need-enum-known-step Inv-loop μ-loop
-enum-known-step c = search needs
-
-enum-told : tie.Need-enum-told Inv-loop μ-loop
-enum-told c = search needs
-
 same-length : tie.Need-same-length Inv-loop μ-loop
 same-length c = c .before .before .before .before .loop .inv .1
 
@@ -60,9 +54,6 @@ returns c =
     absurd (lining-stop (now (a .bytes)) (now (a .out)) (l .out) (l .end) (l .left) (l .at) (a .n) (omega arith) k (l .inv .0)
     (sym (c .before .before .entry-before .ensures) ∙ c .enum-told .given .1))
 
-sub-left : tie.Need-sub-left Inv-loop μ-loop
-sub-left c = search needs
-
 put-line-requires : tie.Need-put-line-requires Inv-loop μ-loop
 put-line-requires c κs =
     let a = c .before .before .before .before .before .before .before .before .before .args in
@@ -75,9 +66,6 @@ put-line-requires c κs =
     let v = c .before .before .step .given .0 .0 in
     let size = found-size (now (a .bytes)) (l .end) v (l .inv .2) (sym (c .before .before .before .before .entry-before .ensures) ∙ c .before .before .step .given .1) .0 in
     (omega arith, omega (arith, l .inv .1), omega (arith, l .inv .3), omega arith)
-
-wide4-requires : tie.Need-wide4-requires Inv-loop μ-loop
-wide4-requires c κs = search needs
 
 loop-less : tie.Need-loop-less Inv-loop μ-loop
 loop-less c =
@@ -114,19 +102,6 @@ pub put-lines-spec : {M : Type 1} → statement M
 put-lines-spec =
     tie.close
     (tie.spec
-    Inv-loop
-    μ-loop
-    sub-end
-    loop-holds
-    entry-before-requires
-    enum-known-step
-    enum-told
-    same-length
-    returns
-    sub-left
-    put-line-requires
-    wide4-requires
-    loop-less
-    loop-again
-    same-length-2
-    returns-2)
+    Inv-loop μ-loop sub-end loop-holds entry-before-requires (λ c. search needs) (λ c. search needs)
+    same-length returns (λ c. search needs) put-line-requires (λ c κs. search needs) loop-less loop-again
+    same-length-2 returns-2)

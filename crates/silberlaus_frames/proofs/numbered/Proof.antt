@@ -3,39 +3,6 @@ use borrow.Author.Needs.{needs}
 use Rattle.silberlaus_frames.proofs.numbered.Statement.{statement}
 use Rattle.silberlaus_frames.proofs.numbered.Tie as tie
 
-enum-known-answer : tie.Need-enum-known-answer
-enum-known-answer c = search needs
-
-flattened-requires : tie.Need-flattened-requires
-flattened-requires c κs = search needs
-
-enum-told : tie.Need-enum-told
-enum-told c = search needs
-
-no-fields-requires : tie.Need-no-fields-requires
-no-fields-requires c κs = search needs
-
-flattened-requires-2 : tie.Need-flattened-requires-2
-flattened-requires-2 c κs = search needs
-
-enum-told-2 : tie.Need-enum-told-2
-enum-told-2 c = search needs
-
-no-fields-requires-2 : tie.Need-no-fields-requires-2
-no-fields-requires-2 c κs = search needs
-
-flattened-requires-3 : tie.Need-flattened-requires-3
-flattened-requires-3 c κs = search needs
-
-enum-known-answer-2 : tie.Need-enum-known-answer-2
-enum-known-answer-2 c = search needs
-
-no-fields-requires-3 : tie.Need-no-fields-requires-3
-no-fields-requires-3 c κs = search needs
-
-flattened-requires-4 : tie.Need-flattened-requires-4
-flattened-requires-4 c κs = search needs
-
 returns : tie.Need-returns
 returns c = rw (c .before .before .answer .given .1) (c .flattened .ensures)
 
@@ -52,18 +19,6 @@ pub numbered-spec : {M : Type 1} → statement M
 numbered-spec =
     tie.close
     (tie.spec
-    enum-known-answer
-    flattened-requires
-    enum-told
-    no-fields-requires
-    flattened-requires-2
-    enum-told-2
-    no-fields-requires-2
-    flattened-requires-3
-    enum-known-answer-2
-    no-fields-requires-3
-    flattened-requires-4
-    returns
-    returns-2
-    returns-3
-    returns-4)
+    (λ c. search needs) (λ c κs. search needs) (λ c. search needs) (λ c κs. search needs)
+    (λ c κs. search needs) (λ c. search needs) (λ c κs. search needs) (λ c κs. search needs)
+    (λ c. search needs) (λ c κs. search needs) (λ c κs. search needs) returns returns-2 returns-3 returns-4)

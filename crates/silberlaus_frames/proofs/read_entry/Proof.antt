@@ -23,12 +23,6 @@ tested c =
       omega (arith, l, c .before .if3 .left),
     )
 
-line-count-requires : tie.Need-line-count-requires
-line-count-requires c κs = search needs
-
-unread-requires : tie.Need-unread-requires
-unread-requires c κs = search needs
-
 returns : tie.Need-returns
 returns c =
     let a = c .before .before .before .before .before .args in
@@ -36,9 +30,6 @@ returns c =
     refusal _ 1 (c .unread .result) _ _
     (no-rate (a .khz) (now (a .bytes)) (a .place) (length (now (a .spectrum))) (length (now (a .residual))) (omega (arith, l, c .before .if1 .taken)))
     (omega arith) (c .unread .ensures)
-
-unread-requires-2 : tie.Need-unread-requires-2
-unread-requires-2 c κs = search needs
 
 returns-2 : tie.Need-returns-2
 returns-2 c =
@@ -49,9 +40,6 @@ returns-2 c =
     (λ z. omega (arith, l, z, c .before .before .if1 .left)) (λ z. omega (arith, l, z, c .before .if2 .taken)))
     (omega arith) (c .unread2 .ensures)
 
-unread-requires-3 : tie.Need-unread-requires-3
-unread-requires-3 c κs = search needs
-
 returns-3 : tie.Need-returns-3
 returns-3 c =
     let a = c .before .before .before .before .before .before .before .args in
@@ -61,15 +49,6 @@ returns-3 c =
     (λ z. omega (arith, l, z, c .before .before .before .if1 .left)) (λ z. omega (arith, l, z, c .before .if3 .taken)))
     (omega arith) (c .unread3 .ensures)
 
-frame-requires : tie.Need-frame-requires
-frame-requires c κs = search needs
-
-why-missing-requires : tie.Need-why-missing-requires
-why-missing-requires c κs = search needs
-
-unread-requires-4 : tie.Need-unread-requires-4
-unread-requires-4 c κs = search needs
-
 returns-4 : tie.Need-returns-4
 returns-4 c =
     let f = c .before .before .before in
@@ -78,18 +57,6 @@ returns-4 c =
     let n = no-frame (a .khz) (now (a .bytes)) (a .place) (length (now (a .spectrum))) (length (now (a .residual))) (t .0) (t .1) (t .2) (t .3)
     (now (f .frame .result)) (f .frame .ensures) (omega (arith, c .before .before .if4 .taken)) in
     refusal _ _ (c .unread4 .result) _ _ (n .0) (n .1) (rw (c .before .why-missing .ensures) at (c .unread4 .ensures))
-
-read-requires : tie.Need-read-requires
-read-requires c κs = search needs
-
-numbered-requires : tie.Need-numbered-requires
-numbered-requires c κs = search needs
-
-same-length : tie.Need-same-length
-same-length c = search needs
-
-same-length-2 : tie.Need-same-length-2
-same-length-2 c = search needs
 
 returns-5 : tie.Need-returns-5
 returns-5 c =
@@ -106,19 +73,6 @@ pub read-entry-spec : {M : Type 1} → statement M
 read-entry-spec =
     tie.close
     (tie.spec
-    line-count-requires
-    unread-requires
-    returns
-    unread-requires-2
-    returns-2
-    unread-requires-3
-    returns-3
-    frame-requires
-    why-missing-requires
-    unread-requires-4
-    returns-4
-    read-requires
-    numbered-requires
-    same-length
-    same-length-2
-    returns-5)
+    (λ c κs. search needs) (λ c κs. search needs) returns (λ c κs. search needs) returns-2
+    (λ c κs. search needs) returns-3 (λ c κs. search needs) (λ c κs. search needs) (λ c κs. search needs)
+    returns-4 (λ c κs. search needs) (λ c κs. search needs) (λ c. search needs) (λ c. search needs) returns-5)

@@ -5,18 +5,6 @@ use Rattle.silberlaus_frames.proofs.read_frame.Statement.{statement}
 use Rattle.silberlaus_frames.proofs.read_frame.Tie as tie
 use Rattle.silberlaus_frames.proofs.Entry.{reading}
 
-read-requires : tie.Need-read-requires
-read-requires c κs = search needs
-
-numbered-requires : tie.Need-numbered-requires
-numbered-requires c κs = search needs
-
-same-length : tie.Need-same-length
-same-length c = search needs
-
-same-length-2 : tie.Need-same-length-2
-same-length-2 c = search needs
-
 returns : tie.Need-returns
 returns c =
     let r = c .before .before .before .before .read in
@@ -25,4 +13,6 @@ returns c =
 
 pub read-frame-spec : {M : Type 1} → statement M
 read-frame-spec =
-    tie.close (tie.spec read-requires numbered-requires same-length same-length-2 returns)
+    tie.close
+    (tie.spec
+    (λ c κs. search needs) (λ c κs. search needs) (λ c. search needs) (λ c. search needs) returns)

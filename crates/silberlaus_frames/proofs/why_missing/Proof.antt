@@ -5,14 +5,11 @@ use borrow.Author.Needs.{needs}
 use Rattle.silberlaus_frames.proofs.why_missing.Statement.{statement}
 use Rattle.silberlaus_frames.proofs.why_missing.Tie as tie
 
-entry-requires : tie.Need-entry-requires
-entry-requires c κs = search needs
-
-number-requires : tie.Need-number-requires
-number-requires c κs = search needs
-
 returns : tie.Need-returns
 returns c = c .number .ensures ∙ ap (λ (x : EntryAnswer). x .number) (c .before .entry .ensures)
 
 pub why-missing-spec : {M : Type 1} → statement M
-why-missing-spec = tie.close (tie.spec entry-requires number-requires returns)
+why-missing-spec =
+    tie.close
+    (tie.spec
+    (λ c κs. search needs) (λ c κs. search needs) returns)

@@ -3,15 +3,6 @@ use borrow.Author.Needs.{needs}
 use Rattle.silberlaus_records.proofs.entries.Statement.{statement}
 use Rattle.silberlaus_records.proofs.entries.Tie as tie
 
-entries-requires : tie.Need-entries-requires
-entries-requires c κs = search needs
-
-enum-known-counted : tie.Need-enum-known-counted
-enum-known-counted c = search needs
-
-enum-told : tie.Need-enum-told
-enum-told c = search needs
-
 returns : tie.Need-returns
 returns c = rw (c .before .counted .given .1) at (c .before .before .before .entries .ensures)
 
@@ -20,4 +11,6 @@ returns-2 c = rw (c .enum-told .given .1) at (c .before .before .entries .ensure
 
 pub entries-spec : {M : Type 1} → statement M
 entries-spec =
-    tie.close (tie.spec entries-requires enum-known-counted enum-told returns returns-2)
+    tie.close
+    (tie.spec
+    (λ c κs. search needs) (λ c. search needs) (λ c. search needs) returns returns-2)

@@ -3,17 +3,11 @@ use borrow.Author.Needs.{needs}
 use Rattle.silberlaus_slots.proofs.protect.Statement.{statement}
 use Rattle.silberlaus_slots.proofs.protect.Tie as tie
 
-protect-requires : tie.Need-protect-requires
-protect-requires c κs = search needs
-
-number-requires : tie.Need-number-requires
-number-requires c κs = search needs
-
-same-length : tie.Need-same-length
-same-length c = search needs
-
 returns : tie.Need-returns
 returns c = rw (c .number .ensures) (c .before .before .before .protect .ensures)
 
 pub protect-spec : {M : Type 1} → statement M
-protect-spec = tie.close (tie.spec protect-requires number-requires same-length returns)
+protect-spec =
+    tie.close
+    (tie.spec
+    (λ c κs. search needs) (λ c κs. search needs) (λ c. search needs) returns)

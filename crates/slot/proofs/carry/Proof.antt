@@ -6,18 +6,6 @@ use borrow.Author.Needs.{needs}
 use Rattle.slot.proofs.carry.Statement.{statement}
 use Rattle.slot.proofs.carry.Tie as tie
 
-protect-requires : tie.Need-protect-requires
-protect-requires c κs = search needs
-
-unprotect-requires : tie.Need-unprotect-requires
-unprotect-requires c κs = search needs
-
-same-length : tie.Need-same-length
-same-length c = search needs
-
-same-length-2 : tie.Need-same-length-2
-same-length-2 c = search needs
-
 returns : tie.Need-returns
 returns c =
     let a = c .before .before .before .before .before .before .before .before .before .before .before .before .args in
@@ -34,4 +22,6 @@ returns c =
 
 pub carry-spec : {M : Type 1} → statement M
 carry-spec =
-    tie.close (tie.spec protect-requires unprotect-requires same-length same-length-2 returns)
+    tie.close
+    (tie.spec
+    (λ c κs. search needs) (λ c κs. search needs) (λ c. search needs) (λ c. search needs) returns)

@@ -14,18 +14,6 @@ use mathlib.Core.Bool.{true, false}
 use mathlib.Core.Path.{refl}
 use borrow.Author.Tests.{not-true, not-false}
 
-mend-all-requires : tie.Need-mend-all-requires
-mend-all-requires c κs = search needs
-
-enum-known-count : tie.Need-enum-known-count
-enum-known-count c = search needs
-
-enum-told : tie.Need-enum-told
-enum-told c = search needs
-
-same-length : tie.Need-same-length
-same-length c = search needs
-
 returns : tie.Need-returns
 returns c =
     let s = c .before .before .before .before .before .before .before .before .before in
@@ -45,18 +33,6 @@ mix-requires c κs =
     let x : MendedTo (a .size) (a .mode) (a .slot .now) (m .last .1 .1 .1 .0) (words (a .size)) (k .0 .0) = rw (k .1) at (m .ensures) in
     (s .pre .0, x .given)
 
-first-hash-size-requires : tie.Need-first-hash-size-requires
-first-hash-size-requires c κs = search needs
-
-mul-at : tie.Need-mul-at
-mul-at c = search needs
-
-sub-at : tie.Need-sub-at
-sub-at c = search needs
-
-slice-read-request : tie.Need-slice-read-request
-slice-read-request c = search needs
-
 cast-deliver : tie.Need-cast-deliver
 cast-deliver c = omega (arith, c .slice-known5 .given (2 * c .before .first-hash-size .result - 1))
 
@@ -71,12 +47,6 @@ deliver-requires c κs =
     let f = c .before .before .before .first-hash-size in
     (s .pre .0, request-is (a .size) (f .result) (z .last .1 .1 .0) (f .ensures .0), data-unmixed (a .size) (a .mode) (m .last .1 .1 .1 .0) (z .last .1 .1 .0) (x .given) (z .ensures), s .pre .3)
 
-same-length-2 : tie.Need-same-length-2
-same-length-2 c = search needs
-
-same-length-3 : tie.Need-same-length-3
-same-length-3 c = search needs
-
 returns-2 : tie.Need-returns-2
 returns-2 c =
     let s = c .before .before .before .before .before .before .before .before .before .before .before .before .before .before .before .before .before .before .before .before .before .before in
@@ -90,12 +60,6 @@ returns-2 c =
     let d = c .before .before .before .deliver in
     let y : IsDelivered (a .size) (a .mode) (z .last .1 .1 .0) (a .frame .now) (d .last .1 .1 .1 .1 .0) false = rw (not-true (d .result) (c .if1 .taken)) at (d .ensures) in
     foreign-answer (a .size) (a .mode) (a .slot .now) (a .frame .now) (d .last .1 .1 .1 .1 .0) (m .last .1 .1 .1 .0) (z .last .1 .1 .0) (k .0 .0) t x (z .ensures) y
-
-same-length-4 : tie.Need-same-length-4
-same-length-4 c = search needs
-
-same-length-5 : tie.Need-same-length-5
-same-length-5 c = search needs
 
 returns-3 : tie.Need-returns-3
 returns-3 c =
@@ -116,21 +80,7 @@ pub judge-spec : {M : Type 1} → statement M
 judge-spec =
     tie.close
     (tie.spec
-    mend-all-requires
-    enum-known-count
-    enum-told
-    same-length
-    returns
-    mix-requires
-    first-hash-size-requires
-    mul-at
-    sub-at
-    slice-read-request
-    cast-deliver
-    deliver-requires
-    same-length-2
-    same-length-3
-    returns-2
-    same-length-4
-    same-length-5
+    (λ c κs. search needs) (λ c. search needs) (λ c. search needs) (λ c. search needs) returns mix-requires
+    (λ c κs. search needs) (λ c. search needs) (λ c. search needs) (λ c. search needs) cast-deliver
+    deliver-requires (λ c. search needs) (λ c. search needs) returns-2 (λ c. search needs) (λ c. search needs)
     returns-3)

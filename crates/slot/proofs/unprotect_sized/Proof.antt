@@ -9,36 +9,6 @@ use borrow.Author.Needs.{needs}
 use Rattle.slot.proofs.unprotect_sized.Statement.{statement}
 use Rattle.slot.proofs.unprotect_sized.Tie as tie
 
-frame-bytes-requires : tie.Need-frame-bytes-requires
-frame-bytes-requires c κs = search needs
-
-returns : tie.Need-returns
-returns c = search needs
-
-returns-2 : tie.Need-returns-2
-returns-2 c = search needs
-
-first-hash-size-requires : tie.Need-first-hash-size-requires
-first-hash-size-requires c κs = search needs
-
-mul-e : tie.Need-mul-e
-mul-e c = search needs
-
-second-hash-size-requires : tie.Need-second-hash-size-requires
-second-hash-size-requires c κs = search needs
-
-mul-e-2 : tie.Need-mul-e-2
-mul-e-2 c = search needs
-
-add-e : tie.Need-add-e
-add-e c = search needs
-
-mul-e-3 : tie.Need-mul-e-3
-mul-e-3 c = search needs
-
-add-e-2 : tie.Need-add-e-2
-add-e-2 c = search needs
-
 array-borrow-prefix-info : tie.Need-array-borrow-prefix-info
 array-borrow-prefix-info c =
     let s = c .before .before .before .before .before .before .before in
@@ -72,28 +42,10 @@ judge-requires c κs =
     let e = 2 * f .result + 2 * g .result + 2 * n .result in
     (s .pre, omega (arith, c .before .before .before .before .if2 .left), data-blank (a .size) (a .mode) e (l .0) (l .1), omega (arith, n .ensures .0, c .before .before .before .before .before .if1 .left))
 
-same-length : tie.Need-same-length
-same-length c = search needs
-
-returns-3 : tie.Need-returns-3
-returns-3 c = search needs
-
 pub unprotect-sized-spec : {M : Type 1} → statement M
 unprotect-sized-spec =
     tie.close
     (tie.spec
-    frame-bytes-requires
-    returns
-    returns-2
-    first-hash-size-requires
-    mul-e
-    second-hash-size-requires
-    mul-e-2
-    add-e
-    mul-e-3
-    add-e-2
-    array-borrow-prefix-info
-    slice-aggregate-judge
-    judge-requires
-    same-length
-    returns-3)
+    (λ c κs. search needs) (λ c. search needs) (λ c. search needs) (λ c κs. search needs) (λ c. search needs)
+    (λ c κs. search needs) (λ c. search needs) (λ c. search needs) (λ c. search needs) (λ c. search needs)
+    array-borrow-prefix-info slice-aggregate-judge judge-requires (λ c. search needs) (λ c. search needs))

@@ -23,21 +23,6 @@ Inv-loop size mode places info₀ count checks rows at₀ i₀ info at i =
 abbrev μ-loop : tie.MeasureT-loop
 μ-loop size mode places info₀ count checks rows at₀ i₀ info at i = count - i
 
-word-count-requires : tie.Need-word-count-requires Inv-loop μ-loop
-word-count-requires c κs = search needs
-
-sub-checks : tie.Need-sub-checks Inv-loop μ-loop
-sub-checks c = search needs
-
-mul-checks : tie.Need-mul-checks Inv-loop μ-loop
-mul-checks c = search needs
-
-cast-check-rows : tie.Need-cast-check-rows Inv-loop μ-loop
-cast-check-rows c = search needs
-
-check-rows-requires : tie.Need-check-rows-requires Inv-loop μ-loop
-check-rows-requires c κs = search needs
-
 loop-holds : tie.Need-loop-holds Inv-loop μ-loop
 loop-holds c =
     let s = c .before .before .before .before in
@@ -47,12 +32,6 @@ loop-holds c =
 inside : (c : tie.In-loop Inv-loop μ-loop) → c .before .loop .i < words (c .before .before .before .before .before .before .args .size)
 inside c = omega (arith, c .before .before .before .word-count .ensures .0, c .loop-test .taken)
 
-word-length-requires : tie.Need-word-length-requires Inv-loop μ-loop
-word-length-requires c κs = search needs
-
-sub-e : tie.Need-sub-e Inv-loop μ-loop
-sub-e c = search needs
-
 add-e : tie.Need-add-e Inv-loop μ-loop
 add-e c =
     let s = c .before .before .before .before .before .before .before in
@@ -61,12 +40,6 @@ add-e c =
     let w = c .word-length in
     let l = inside (c .before) in
     record { fits = omega (arith, words-high (a .size), s .pre .0 .size-to, l, h .inv .1, w .ensures .2) }
-
-sub-clean-word : tie.Need-sub-clean-word Inv-loop μ-loop
-sub-clean-word c = search needs
-
-part-clean-word-start : tie.Need-part-clean-word-start Inv-loop μ-loop
-part-clean-word-start c = search needs
 
 part-clean-word-end : tie.Need-part-clean-word-end Inv-loop μ-loop
 part-clean-word-end c =
@@ -109,12 +82,6 @@ returns c =
     let d = clean-data _ _ _ _ _ _ _ _ (s .pre .0) l (h .inv .2) (h .inv .3) (w .ensures .0) refl (s .pre .2) (m .last .1 .1 .1 .1 .1 .0) (m .ensures .0) in
     (d, λ e. absurd (true≢false (sym e)))
 
-add-i : tie.Need-add-i Inv-loop μ-loop
-add-i c = search needs
-
-loop-less : tie.Need-loop-less Inv-loop μ-loop
-loop-less c = search needs
-
 loop-again : tie.Need-loop-again Inv-loop μ-loop
 loop-again c =
     let s = c .before .before .before .before .before .before .before .before .before .before .before .before .before in
@@ -147,25 +114,7 @@ pub clean-spec : {M : Type 1} → statement M
 clean-spec =
     tie.close
     (tie.spec
-    Inv-loop
-    μ-loop
-    word-count-requires
-    sub-checks
-    mul-checks
-    cast-check-rows
-    check-rows-requires
-    loop-holds
-    word-length-requires
-    sub-e
-    add-e
-    sub-clean-word
-    part-clean-word-start
-    part-clean-word-end
-    clean-word-requires
-    same-length
-    returns
-    add-i
-    loop-less
-    loop-again
-    same-length-2
-    returns-2)
+    Inv-loop μ-loop (λ c κs. search needs) (λ c. search needs) (λ c. search needs) (λ c. search needs)
+    (λ c κs. search needs) loop-holds (λ c κs. search needs) (λ c. search needs) add-e (λ c. search needs)
+    (λ c. search needs) part-clean-word-end clean-word-requires same-length returns (λ c. search needs)
+    (λ c. search needs) loop-again same-length-2 returns-2)

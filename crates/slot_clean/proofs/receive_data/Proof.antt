@@ -23,15 +23,6 @@ Inv-loop size i mode places row rows w₀ count n r₀ k₀ w r k =
 abbrev μ-loop : tie.MeasureT-loop
 μ-loop size i mode places row rows w₀ count n r₀ k₀ w r k = length w₀ - k
 
-word-count-requires : tie.Need-word-count-requires Inv-loop μ-loop
-word-count-requires c κs = search needs
-
-sub-n : tie.Need-sub-n Inv-loop μ-loop
-sub-n c = search needs
-
-mul-n : tie.Need-mul-n Inv-loop μ-loop
-mul-n c = search needs
-
 loop-holds : tie.Need-loop-holds Inv-loop μ-loop
 loop-holds c =
     let a = c .before .before .before .before .args in (
@@ -59,12 +50,6 @@ below c =
     let w = c .before .before .word-count in
     place-below (s .args .size) (w .result) (s .args .i) _ (s .pre .0 .size-from) (w .ensures .0) (s .pre .1) (inside c)
 
-mul-c : tie.Need-mul-c Inv-loop μ-loop
-mul-c c = search needs
-
-add-c : tie.Need-add-c Inv-loop μ-loop
-add-c c = search needs
-
 mul-c-2 : tie.Need-mul-c-2 Inv-loop μ-loop
 mul-c-2 c = let b = below c in omega arith
 
@@ -80,9 +65,6 @@ sub-c-3 c = let b = below c in omega arith
 shared-slice-read-c : tie.Need-shared-slice-read-c Inv-loop μ-loop
 shared-slice-read-c c = let b = below (c .before) in omega (arith, begin (c .before) .pre .2)
 
-add-c-2 : tie.Need-add-c-2 Inv-loop μ-loop
-add-c-2 c = search needs
-
 shared-slice-read-c-2 : tie.Need-shared-slice-read-c-2 Inv-loop μ-loop
 shared-slice-read-c-2 c =
     let s = begin (c .before .before) in
@@ -90,18 +72,6 @@ shared-slice-read-c-2 c =
     let d = inside (c .before .before) in
     let l = length-high (a .size) (a .i) (s .pre .0 .size-from) in
     omega (arith, s .pre .3)
-
-slice-write-w : tie.Need-slice-write-w Inv-loop μ-loop
-slice-write-w c = search needs
-
-with-data-requires : tie.Need-with-data-requires Inv-loop μ-loop
-with-data-requires c κs = search needs
-
-add-k : tie.Need-add-k Inv-loop μ-loop
-add-k c = search needs
-
-loop-less : tie.Need-loop-less Inv-loop μ-loop
-loop-less c = search needs
 
 loop-again : tie.Need-loop-again Inv-loop μ-loop
 loop-again c =
@@ -122,9 +92,6 @@ loop-again c =
           (c .with-data .result) x (h .loop .inv .3) (c .with-data .ensures),
     )
 
-same-length : tie.Need-same-length Inv-loop μ-loop
-same-length c = search needs
-
 returns : tie.Need-returns Inv-loop μ-loop
 returns c =
     let s = c .before .before .before .before .before .before in
@@ -140,25 +107,7 @@ pub receive-data-spec : {M : Type 1} → statement M
 receive-data-spec =
     tie.close
     (tie.spec
-    Inv-loop
-    μ-loop
-    word-count-requires
-    sub-n
-    mul-n
-    loop-holds
-    mul-c
-    add-c
-    mul-c-2
-    sub-c
-    sub-c-2
-    sub-c-3
-    shared-slice-read-c
-    add-c-2
-    shared-slice-read-c-2
-    slice-write-w
-    with-data-requires
-    add-k
-    loop-less
-    loop-again
-    same-length
-    returns)
+    Inv-loop μ-loop (λ c κs. search needs) (λ c. search needs) (λ c. search needs) loop-holds
+    (λ c. search needs) (λ c. search needs) mul-c-2 sub-c sub-c-2 sub-c-3 shared-slice-read-c
+    (λ c. search needs) shared-slice-read-c-2 (λ c. search needs) (λ c κs. search needs) (λ c. search needs)
+    (λ c. search needs) loop-again (λ c. search needs) returns)

@@ -15,24 +15,12 @@ Inv-loop size i mode places row r count bits₀ rest₀ k₀ bits rest k =
 abbrev μ-loop : tie.MeasureT-loop
 μ-loop size i mode places row r count bits₀ rest₀ k₀ bits rest k = k
 
-word-count-requires : tie.Need-word-count-requires Inv-loop μ-loop
-word-count-requires c κs = search needs
-
-sub-k : tie.Need-sub-k Inv-loop μ-loop
-sub-k c = search needs
-
-mul-k : tie.Need-mul-k Inv-loop μ-loop
-mul-k c = search needs
-
 loop-holds : tie.Need-loop-holds Inv-loop μ-loop
 loop-holds c =
     let s = c .before .before .before in
     let a = s .args in
     let l = length-checks (a .size) (a .mode) (a .i) (a .places .now) (s .pre .0) (s .pre .1) in
     (omega arith, compared-first (2 * (a .mode - 1)) (a .r) (checksFrom (a .size) (a .mode) (a .places .now) (a .i)) l)
-
-sub-k-2 : tie.Need-sub-k-2 Inv-loop μ-loop
-sub-k-2 c = search needs
 
 abbrev begin : tie.In-loop Inv-loop μ-loop → tie.Start Inv-loop μ-loop
 begin c = c .before .before .before .before .before
@@ -47,9 +35,6 @@ below c =
     let w = c .before .before .word-count in
     place-below (a .size) (w .result) (a .i) (h .k - 1) (s .pre .0 .size-from) (w .ensures .0) (s .pre .1)
     (check-place (a .size) (a .mode) (a .i) (a .places .now) (s .pre .0) (s .pre .1) (h .k - 1) (omega (arith, h .inv .0, c .loop-test .taken)))
-
-mul-bits : tie.Need-mul-bits Inv-loop μ-loop
-mul-bits c = search needs
 
 mul-bits-2 : tie.Need-mul-bits-2 Inv-loop μ-loop
 mul-bits-2 c = let b = below c in omega arith
@@ -70,12 +55,6 @@ shared-slice-read-bits-2 : tie.Need-shared-slice-read-bits-2 Inv-loop μ-loop
 shared-slice-read-bits-2 c =
     let s = begin (c .before .before) in
     omega (arith, s .pre .3, s .pre .0 .mode-to, c .before .before .before .loop .inv .0)
-
-cast-bits : tie.Need-cast-bits Inv-loop μ-loop
-cast-bits c = search needs
-
-loop-less : tie.Need-loop-less Inv-loop μ-loop
-loop-less c = search needs
 
 loop-again : tie.Need-loop-again Inv-loop μ-loop
 loop-again c =
@@ -103,21 +82,6 @@ pub same-checks-spec : {M : Type 1} → statement M
 same-checks-spec =
     tie.close
     (tie.spec
-    Inv-loop
-    μ-loop
-    word-count-requires
-    sub-k
-    mul-k
-    loop-holds
-    sub-k-2
-    mul-bits
-    mul-bits-2
-    sub-bits
-    sub-bits-2
-    sub-bits-3
-    shared-slice-read-bits
-    shared-slice-read-bits-2
-    cast-bits
-    loop-less
-    loop-again
-    returns)
+    Inv-loop μ-loop (λ c κs. search needs) (λ c. search needs) (λ c. search needs) loop-holds
+    (λ c. search needs) (λ c. search needs) mul-bits-2 sub-bits sub-bits-2 sub-bits-3 shared-slice-read-bits
+    shared-slice-read-bits-2 (λ c. search needs) (λ c. search needs) loop-again returns)

@@ -21,32 +21,11 @@ loop-holds c =
     let a = c .args in
     (omega arith, refl, filled-first (semi (a .slot .now)) (length (a .places .now)) (a .places .now) refl)
 
-shared-slice-read-b : tie.Need-shared-slice-read-b Inv-loop μ-loop
-shared-slice-read-b c = search needs
-
-mul-places : tie.Need-mul-places Inv-loop μ-loop
-mul-places c = search needs
-
-slice-write-places : tie.Need-slice-write-places Inv-loop μ-loop
-slice-write-places c = search needs
-
-mul-places-2 : tie.Need-mul-places-2 Inv-loop μ-loop
-mul-places-2 c = search needs
-
-add-places : tie.Need-add-places Inv-loop μ-loop
-add-places c = search needs
-
 slice-write-places-2 : tie.Need-slice-write-places-2 Inv-loop μ-loop
 slice-write-places-2 c =
     let h = c .before .before in
     let l = length-set (h .loop .places) (2 * h .loop .j) (getD (h .before .args .slot .now) (h .loop .j) 0 % 16) in
     omega (arith, h .loop .inv .1, h .before .pre .1)
-
-add-j : tie.Need-add-j Inv-loop μ-loop
-add-j c = search needs
-
-loop-less : tie.Need-loop-less Inv-loop μ-loop
-loop-less c = search needs
 
 loop-again : tie.Need-loop-again Inv-loop μ-loop
 loop-again c =
@@ -55,9 +34,6 @@ loop-again c =
     let b = c .shared-slice-known .given (h .loop .j) .fits in
     let g = unpacked-next (a .slot .now) (length (a .places .now)) (h .loop .j) (h .loop .places) (h .loop .inv .2) (omega (arith, h .before .pre .1)) b in
     (omega arith, g .long, g)
-
-same-length : tie.Need-same-length Inv-loop μ-loop
-same-length c = search needs
 
 returns : tie.Need-returns Inv-loop μ-loop
 returns c =
@@ -70,17 +46,6 @@ pub unpack-spec : {M : Type 1} → statement M
 unpack-spec =
     tie.close
     (tie.spec
-    Inv-loop
-    μ-loop
-    loop-holds
-    shared-slice-read-b
-    mul-places
-    slice-write-places
-    mul-places-2
-    add-places
-    slice-write-places-2
-    add-j
-    loop-less
-    loop-again
-    same-length
-    returns)
+    Inv-loop μ-loop loop-holds (λ c. search needs) (λ c. search needs) (λ c. search needs) (λ c. search needs)
+    (λ c. search needs) slice-write-places-2 (λ c. search needs) (λ c. search needs) loop-again
+    (λ c. search needs) returns)

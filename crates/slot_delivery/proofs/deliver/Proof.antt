@@ -12,37 +12,10 @@ use native.Mathlib.Omega.{arith}
 use mathlib.Core.Path.{_≡_, refl}
 use borrow.Author.Tests.{not-true, not-false}
 
-first-hash-size-requires : tie.Need-first-hash-size-requires
-first-hash-size-requires c κs = search needs
-
-mul-heading : tie.Need-mul-heading
-mul-heading c = search needs
-
-second-hash-size-requires : tie.Need-second-hash-size-requires
-second-hash-size-requires c κs = search needs
-
-mul-heading-2 : tie.Need-mul-heading-2
-mul-heading-2 c = search needs
-
-add-heading : tie.Need-add-heading
-add-heading c = search needs
-
-matches-requires : tie.Need-matches-requires
-matches-requires c κs = search needs
-
 returns : tie.Need-returns
 returns c =
     let m = c .before .matches in
     (m .ensures .fails (not-true (m .result) (c .if1 .taken)), refl)
-
-sub-roll : tie.Need-sub-roll
-sub-roll c = search needs
-
-part-roll-start : tie.Need-part-roll-start
-part-roll-start c = search needs
-
-part-roll-end : tie.Need-part-roll-end
-part-roll-end c = search needs
 
 roll-requires : tie.Need-roll-requires
 roll-requires c κs =
@@ -56,9 +29,6 @@ roll-requires c κs =
       omega (arith, s .pre .3),
       below-take 16 (length t - h) (drop h t) (omega arith) (below-drop 16 h t (s .pre .2 .below)),
     )
-
-same-length : tie.Need-same-length
-same-length c = search needs
 
 returns-2 : tie.Need-returns-2
 returns-2 c =
@@ -79,16 +49,6 @@ pub deliver-spec : {M : Type 1} → statement M
 deliver-spec =
     tie.close
     (tie.spec
-    first-hash-size-requires
-    mul-heading
-    second-hash-size-requires
-    mul-heading-2
-    add-heading
-    matches-requires
-    returns
-    sub-roll
-    part-roll-start
-    part-roll-end
-    roll-requires
-    same-length
-    returns-2)
+    (λ c κs. search needs) (λ c. search needs) (λ c κs. search needs) (λ c. search needs) (λ c. search needs)
+    (λ c κs. search needs) returns (λ c. search needs) (λ c. search needs) (λ c. search needs) roll-requires
+    (λ c. search needs) returns-2)

@@ -12,33 +12,6 @@ use borrow.Author.Needs.{needs}
 use Rattle.slot_delivery.proofs.matches.Statement.{statement}
 use Rattle.slot_delivery.proofs.matches.Tie as tie
 
-first-hash-size-requires : tie.Need-first-hash-size-requires
-first-hash-size-requires c κs = search needs
-
-mul-h : tie.Need-mul-h
-mul-h c = search needs
-
-second-hash-size-requires : tie.Need-second-hash-size-requires
-second-hash-size-requires c κs = search needs
-
-mul-h-2 : tie.Need-mul-h-2
-mul-h-2 c = search needs
-
-add-h : tie.Need-add-h
-add-h c = search needs
-
-sub-put-heading : tie.Need-sub-put-heading
-sub-put-heading c = search needs
-
-part-put-heading-start : tie.Need-part-put-heading-start
-part-put-heading-start c = search needs
-
-part-put-heading-end : tie.Need-part-put-heading-end
-part-put-heading-end c = search needs
-
-array-borrow-prefix-head : tie.Need-array-borrow-prefix-head
-array-borrow-prefix-head c = search needs
-
 slice-aggregate-put-heading : tie.Need-slice-aggregate-put-heading
 slice-aggregate-put-heading c = sym (length-take-le (2 * c .before .before .before .first-hash-size .result + 2 * c .before .before .second-hash-size .result) blank (omega (arith, c .before .before .before .first-hash-size .ensures .2, c .before .before .second-hash-size .ensures .1)))
 
@@ -104,19 +77,7 @@ pub matches-spec : {M : Type 1} → statement M
 matches-spec =
     tie.close
     (tie.spec
-    first-hash-size-requires
-    mul-h
-    second-hash-size-requires
-    mul-h-2
-    add-h
-    sub-put-heading
-    part-put-heading-start
-    part-put-heading-end
-    array-borrow-prefix-head
-    slice-aggregate-put-heading
-    put-heading-requires
-    array-share-prefix-head
-    slice-aggregate-same
-    slice-aggregate-same-2
-    same-requires
-    returns)
+    (λ c κs. search needs) (λ c. search needs) (λ c κs. search needs) (λ c. search needs) (λ c. search needs)
+    (λ c. search needs) (λ c. search needs) (λ c. search needs) (λ c. search needs)
+    slice-aggregate-put-heading put-heading-requires array-share-prefix-head slice-aggregate-same
+    slice-aggregate-same-2 same-requires returns)

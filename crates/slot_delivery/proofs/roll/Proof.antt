@@ -21,38 +21,8 @@ loop-holds c =
     let n = length (a .frame .now) in
     (omega arith, refl, filled-first (λ (j : ℕ). getD (a .a .now) (2 * n - 1 - 2 * j) 0 + 16 * getD (a .a .now) (2 * n - 1 - (2 * j + 1)) 0) n (a .frame .now) refl)
 
-mul-frame : tie.Need-mul-frame Inv-loop μ-loop
-mul-frame c = search needs
-
-sub-frame : tie.Need-sub-frame Inv-loop μ-loop
-sub-frame c = search needs
-
-mul-frame-2 : tie.Need-mul-frame-2 Inv-loop μ-loop
-mul-frame-2 c = search needs
-
-sub-frame-2 : tie.Need-sub-frame-2 Inv-loop μ-loop
-sub-frame-2 c = search needs
-
-shared-slice-read-frame : tie.Need-shared-slice-read-frame Inv-loop μ-loop
-shared-slice-read-frame c = search needs
-
-mul-frame-3 : tie.Need-mul-frame-3 Inv-loop μ-loop
-mul-frame-3 c = search needs
-
-sub-frame-3 : tie.Need-sub-frame-3 Inv-loop μ-loop
-sub-frame-3 c = search needs
-
-mul-frame-4 : tie.Need-mul-frame-4 Inv-loop μ-loop
-mul-frame-4 c = search needs
-
 add-frame : tie.Need-add-frame Inv-loop μ-loop
 add-frame c = omega arith
-
-sub-frame-4 : tie.Need-sub-frame-4 Inv-loop μ-loop
-sub-frame-4 c = search needs
-
-shared-slice-read-frame-2 : tie.Need-shared-slice-read-frame-2 Inv-loop μ-loop
-shared-slice-read-frame-2 c = search needs
 
 mul-frame-5 : tie.Need-mul-frame-5 Inv-loop μ-loop
 mul-frame-5 c =
@@ -68,15 +38,6 @@ add-frame-2 c =
     let b = h .before .pre .2 (2 * length (a .frame .now) - 1 - (2 * h .loop .j + 1)) in
     let d = h .before .pre .2 (2 * length (a .frame .now) - 1 - 2 * h .loop .j) in
     omega arith
-
-slice-write-frame : tie.Need-slice-write-frame Inv-loop μ-loop
-slice-write-frame c = search needs
-
-add-j : tie.Need-add-j Inv-loop μ-loop
-add-j c = search needs
-
-loop-less : tie.Need-loop-less Inv-loop μ-loop
-loop-less c = search needs
 
 loop-again : tie.Need-loop-again Inv-loop μ-loop
 loop-again c =
@@ -99,25 +60,7 @@ pub roll-spec : {M : Type 1} → statement M
 roll-spec =
     tie.close
     (tie.spec
-    Inv-loop
-    μ-loop
-    loop-holds
-    mul-frame
-    sub-frame
-    mul-frame-2
-    sub-frame-2
-    shared-slice-read-frame
-    mul-frame-3
-    sub-frame-3
-    mul-frame-4
-    add-frame
-    sub-frame-4
-    shared-slice-read-frame-2
-    mul-frame-5
-    add-frame-2
-    slice-write-frame
-    add-j
-    loop-less
-    loop-again
-    same-length
-    returns)
+    Inv-loop μ-loop loop-holds (λ c. search needs) (λ c. search needs) (λ c. search needs) (λ c. search needs)
+    (λ c. search needs) (λ c. search needs) (λ c. search needs) (λ c. search needs) add-frame
+    (λ c. search needs) (λ c. search needs) mul-frame-5 add-frame-2 (λ c. search needs) (λ c. search needs)
+    (λ c. search needs) loop-again same-length returns)

@@ -10,18 +10,6 @@ use borrow.Author.Needs.{needs}
 use Rattle.slot_hashing.proofs.first_hash.Statement.{statement}
 use Rattle.slot_hashing.proofs.first_hash.Tie as tie
 
-frame-bytes-requires : tie.Need-frame-bytes-requires
-frame-bytes-requires c κs = search needs
-
-mul-e : tie.Need-mul-e
-mul-e c = search needs
-
-conceal-size-requires : tie.Need-conceal-size-requires
-conceal-size-requires c κs = search needs
-
-sub-e : tie.Need-sub-e
-sub-e c = search needs
-
 slice-aggregate-hash-by-fours : tie.Need-slice-aggregate-hash-by-fours
 slice-aggregate-hash-by-fours c =
     let h = c .before .before .before .before in
@@ -31,9 +19,6 @@ slice-aggregate-hash-by-fours c =
 hash-by-fours-requires : tie.Need-hash-by-fours-requires
 hash-by-fours-requires c κs = (rows-raised, fours-raised, search needs, search needs, search needs)
 
-with-request-requires : tie.Need-with-request-requires
-with-request-requires c κs = search needs
-
 slice-aggregate-hash-by-fours-2 : tie.Need-slice-aggregate-hash-by-fours-2
 slice-aggregate-hash-by-fours-2 c =
     let h = c .before .before .before .before in
@@ -42,9 +27,6 @@ slice-aggregate-hash-by-fours-2 c =
 
 hash-by-fours-requires-2 : tie.Need-hash-by-fours-requires-2
 hash-by-fours-requires-2 c κs = (rows-twenty-two, fours-twenty-two, search needs, search needs, search needs)
-
-with-request-requires-2 : tie.Need-with-request-requires-2
-with-request-requires-2 c κs = search needs
 
 returns : tie.Need-returns
 returns c =
@@ -72,15 +54,6 @@ pub first-hash-spec : {M : Type 1} → statement M
 first-hash-spec =
     tie.close
     (tie.spec
-    frame-bytes-requires
-    mul-e
-    conceal-size-requires
-    sub-e
-    slice-aggregate-hash-by-fours
-    hash-by-fours-requires
-    with-request-requires
-    slice-aggregate-hash-by-fours-2
-    hash-by-fours-requires-2
-    with-request-requires-2
-    returns
-    returns-2)
+    (λ c κs. search needs) (λ c. search needs) (λ c κs. search needs) (λ c. search needs)
+    slice-aggregate-hash-by-fours hash-by-fours-requires (λ c κs. search needs)
+    slice-aggregate-hash-by-fours-2 hash-by-fours-requires-2 (λ c κs. search needs) returns returns-2)

@@ -19,20 +19,8 @@ abbrev μ-loop : tie.MeasureT-loop
 loop-holds : tie.Need-loop-holds Inv-loop μ-loop
 loop-holds c = let a = c .before .args in (omega arith, hash-first (a .p) (a .n) (a .s .now), pow-pos (a .n))
 
-sub-i : tie.Need-sub-i Inv-loop μ-loop
-sub-i c = search needs
-
-shared-slice-read-push-semi : tie.Need-shared-slice-read-push-semi Inv-loop μ-loop
-shared-slice-read-push-semi c = search needs
-
 cast-push-semi : tie.Need-cast-push-semi Inv-loop μ-loop
 cast-push-semi c = omega (arith, c .shared-slice-known2 .given (c .before .before .loop .i - 1))
-
-push-semi-requires : tie.Need-push-semi-requires Inv-loop μ-loop
-push-semi-requires c κs = search needs
-
-loop-less : tie.Need-loop-less Inv-loop μ-loop
-loop-less c = search needs
 
 loop-again : tie.Need-loop-again Inv-loop μ-loop
 loop-again c =
@@ -53,13 +41,5 @@ pub hash-of-spec : {M : Type 1} → statement M
 hash-of-spec =
     tie.close
     (tie.spec
-    Inv-loop
-    μ-loop
-    loop-holds
-    sub-i
-    shared-slice-read-push-semi
-    cast-push-semi
-    push-semi-requires
-    loop-less
-    loop-again
-    returns)
+    Inv-loop μ-loop loop-holds (λ c. search needs) (λ c. search needs) cast-push-semi (λ c κs. search needs)
+    (λ c. search needs) loop-again returns)

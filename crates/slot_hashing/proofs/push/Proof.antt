@@ -10,12 +10,6 @@ use Rattle.slot_hashing.proofs.push.Tie as tie
 mul-v : tie.Need-mul-v
 mul-v c = let a = c .args in let f = remainder-fits (a .n) (a .r) (c .pre .1) (c .pre .3) in omega arith
 
-shl-v : tie.Need-shl-v
-shl-v c = search needs
-
-shr-result : tie.Need-shr-result
-shr-result c = search needs
-
 mul-result : tie.Need-mul-result
 mul-result c =
     let a = c .args in
@@ -26,4 +20,7 @@ returns : tie.Need-returns
 returns c = let a = c .args in push-is (a .p) (a .n) (a .b) (a .r) _ _ (c .pre .0) (c .pre .1) (c .pre .2) (c .pre .3) refl refl
 
 pub push-spec : {M : Type 1} → statement M
-push-spec = tie.close (tie.spec mul-v shl-v shr-result mul-result returns)
+push-spec =
+    tie.close
+    (tie.spec
+    mul-v (λ c. search needs) (λ c. search needs) mul-result returns)

@@ -6,36 +6,6 @@ use borrow.Author.Needs.{needs}
 use Rattle.slot_hashing.proofs.push_four.Statement.{statement}
 use Rattle.slot_hashing.proofs.push_four.Tie as tie
 
-mul-w : tie.Need-mul-w
-mul-w c = search needs
-
-add-w : tie.Need-add-w
-add-w c = search needs
-
-mul-w-2 : tie.Need-mul-w-2
-mul-w-2 c = search needs
-
-add-w-2 : tie.Need-add-w-2
-add-w-2 c = search needs
-
-mul-w-3 : tie.Need-mul-w-3
-mul-w-3 c = search needs
-
-add-w-3 : tie.Need-add-w-3
-add-w-3 c = search needs
-
-sub-t : tie.Need-sub-t
-sub-t c = search needs
-
-shr-t : tie.Need-shr-t
-shr-t c = search needs
-
-sub-kept : tie.Need-sub-kept
-sub-kept c = search needs
-
-shl-kept : tie.Need-shl-kept
-shl-kept c = search needs
-
 rem-kept : tie.Need-rem-kept
 rem-kept c = let f = not-none-four (c .args .n) (c .pre .4) in omega arith
 
@@ -54,36 +24,6 @@ mul-upper c = let a = c .args in let f = upper-lt (a .n) (a .a) (a .b) (a .c) (a
 element-copy-out-upper : tie.Need-element-copy-out-upper
 element-copy-out-upper c = let a = c .args in upper-lt (a .n) (a .a) (a .b) (a .c) (a .d) (a .r) (c .pre .3) (c .pre .5)
 
-add-upper-2 : tie.Need-add-upper-2
-add-upper-2 c = search needs
-
-cast-upper-2 : tie.Need-cast-upper-2
-cast-upper-2 c = search needs
-
-mul-upper-2 : tie.Need-mul-upper-2
-mul-upper-2 c = search needs
-
-element-copy-out-upper-2 : tie.Need-element-copy-out-upper-2
-element-copy-out-upper-2 c = search needs
-
-cast-lower : tie.Need-cast-lower
-cast-lower c = search needs
-
-mul-lower : tie.Need-mul-lower
-mul-lower c = search needs
-
-element-copy-out-lower : tie.Need-element-copy-out-lower
-element-copy-out-lower c = search needs
-
-cast-lower-2 : tie.Need-cast-lower-2
-cast-lower-2 c = search needs
-
-mul-lower-2 : tie.Need-mul-lower-2
-mul-lower-2 c = search needs
-
-element-copy-out-lower-2 : tie.Need-element-copy-out-lower-2
-element-copy-out-lower-2 c = search needs
-
 returns : tie.Need-returns
 returns c =
     let h = c .before .before .before .before in
@@ -95,30 +35,8 @@ pub push-four-spec : {M : Type 1} → statement M
 push-four-spec =
     tie.close
     (tie.spec
-    mul-w
-    add-w
-    mul-w-2
-    add-w-2
-    mul-w-3
-    add-w-3
-    sub-t
-    shr-t
-    sub-kept
-    shl-kept
-    rem-kept
-    mul-kept
-    add-upper
-    cast-upper
-    mul-upper
-    element-copy-out-upper
-    add-upper-2
-    cast-upper-2
-    mul-upper-2
-    element-copy-out-upper-2
-    cast-lower
-    mul-lower
-    element-copy-out-lower
-    cast-lower-2
-    mul-lower-2
-    element-copy-out-lower-2
-    returns)
+    (λ c. search needs) (λ c. search needs) (λ c. search needs) (λ c. search needs) (λ c. search needs)
+    (λ c. search needs) (λ c. search needs) (λ c. search needs) (λ c. search needs) (λ c. search needs)
+    rem-kept mul-kept add-upper cast-upper mul-upper element-copy-out-upper (λ c. search needs)
+    (λ c. search needs) (λ c. search needs) (λ c. search needs) (λ c. search needs) (λ c. search needs)
+    (λ c. search needs) (λ c. search needs) (λ c. search needs) (λ c. search needs) returns)

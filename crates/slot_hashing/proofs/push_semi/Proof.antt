@@ -6,18 +6,6 @@ use borrow.Author.Needs.{needs}
 use Rattle.slot_hashing.proofs.push_semi.Statement.{statement}
 use Rattle.slot_hashing.proofs.push_semi.Tie as tie
 
-sub-t : tie.Need-sub-t
-sub-t c = search needs
-
-shr-t : tie.Need-shr-t
-shr-t c = search needs
-
-sub-result : tie.Need-sub-result
-sub-result c = search needs
-
-shl-result : tie.Need-shl-result
-shl-result c = search needs
-
 rem-result : tie.Need-rem-result
 rem-result c = let f = not-none (c .args .n) (c .pre .3) in omega arith
 
@@ -43,13 +31,5 @@ pub push-semi-spec : {M : Type 1} → statement M
 push-semi-spec =
     tie.close
     (tie.spec
-    sub-t
-    shr-t
-    sub-result
-    shl-result
-    rem-result
-    mul-result
-    cast-result
-    mul-result-2
-    element-copy-out-result
-    returns)
+    (λ c. search needs) (λ c. search needs) (λ c. search needs) (λ c. search needs) rem-result mul-result
+    cast-result mul-result-2 element-copy-out-result returns)

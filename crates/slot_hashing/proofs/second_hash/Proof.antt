@@ -8,27 +8,6 @@ use borrow.Author.Needs.{needs}
 use Rattle.slot_hashing.proofs.second_hash.Statement.{statement}
 use Rattle.slot_hashing.proofs.second_hash.Tie as tie
 
-frame-bytes-requires : tie.Need-frame-bytes-requires
-frame-bytes-requires c κs = search needs
-
-mul-e : tie.Need-mul-e
-mul-e c = search needs
-
-conceal-size-requires : tie.Need-conceal-size-requires
-conceal-size-requires c κs = search needs
-
-sub-e : tie.Need-sub-e
-sub-e c = search needs
-
-sub-hash-by-fours : tie.Need-sub-hash-by-fours
-sub-hash-by-fours c = search needs
-
-part-hash-by-fours-start : tie.Need-part-hash-by-fours-start
-part-hash-by-fours-start c = search needs
-
-part-hash-by-fours-end : tie.Need-part-hash-by-fours-end
-part-hash-by-fours-end c = search needs
-
 hash-by-fours-requires : tie.Need-hash-by-fours-requires
 hash-by-fours-requires c κs = (rows-sixteen, fours-sixteen, search needs, search needs, search needs)
 
@@ -42,12 +21,5 @@ pub second-hash-spec : {M : Type 1} → statement M
 second-hash-spec =
     tie.close
     (tie.spec
-    frame-bytes-requires
-    mul-e
-    conceal-size-requires
-    sub-e
-    sub-hash-by-fours
-    part-hash-by-fours-start
-    part-hash-by-fours-end
-    hash-by-fours-requires
-    returns)
+    (λ c κs. search needs) (λ c. search needs) (λ c κs. search needs) (λ c. search needs) (λ c. search needs)
+    (λ c. search needs) (λ c. search needs) hash-by-fours-requires returns)

@@ -3,14 +3,11 @@ use borrow.Author.Needs.{needs}
 use Rattle.slot_hashing.proofs.with_request.Statement.{statement}
 use Rattle.slot_hashing.proofs.with_request.Tie as tie
 
-push-requires : tie.Need-push-requires
-push-requires c κs = search needs
-
-push-requires-2 : tie.Need-push-requires-2
-push-requires-2 c κs = search needs
-
 returns : tie.Need-returns
 returns c = (cc, c .push2 .ensures .1)
 
 pub with-request-spec : {M : Type 1} → statement M
-with-request-spec = tie.close (tie.spec push-requires push-requires-2 returns)
+with-request-spec =
+    tie.close
+    (tie.spec
+    (λ c κs. search needs) (λ c κs. search needs) returns)

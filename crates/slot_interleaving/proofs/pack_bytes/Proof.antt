@@ -20,21 +20,6 @@ loop-holds c =
     let a = c .args in
     (omega arith, refl, filled-first (λ (j : ℕ). getD (a .places .now) (2 * j) 0 + 16 * getD (a .places .now) (2 * j + 1) 0) (length (a .slot .now)) (a .slot .now) refl)
 
-mul-slot : tie.Need-mul-slot Inv-loop μ-loop
-mul-slot c = search needs
-
-shared-slice-read-slot : tie.Need-shared-slice-read-slot Inv-loop μ-loop
-shared-slice-read-slot c = search needs
-
-mul-slot-2 : tie.Need-mul-slot-2 Inv-loop μ-loop
-mul-slot-2 c = search needs
-
-add-slot : tie.Need-add-slot Inv-loop μ-loop
-add-slot c = search needs
-
-shared-slice-read-slot-2 : tie.Need-shared-slice-read-slot-2 Inv-loop μ-loop
-shared-slice-read-slot-2 c = search needs
-
 mul-slot-3 : tie.Need-mul-slot-3 Inv-loop μ-loop
 mul-slot-3 c =
     let h = c .before .before .before in
@@ -47,15 +32,6 @@ add-slot-2 c =
     let b = h .before .pre .2 (2 * h .loop .j + 1) (omega arith) in
     let d = h .before .pre .2 (2 * h .loop .j) (omega arith) in
     omega arith
-
-slice-write-slot : tie.Need-slice-write-slot Inv-loop μ-loop
-slice-write-slot c = search needs
-
-add-j : tie.Need-add-j Inv-loop μ-loop
-add-j c = search needs
-
-loop-less : tie.Need-loop-less Inv-loop μ-loop
-loop-less c = search needs
 
 loop-again : tie.Need-loop-again Inv-loop μ-loop
 loop-again c =
@@ -78,19 +54,6 @@ pub pack-bytes-spec : {M : Type 1} → statement M
 pack-bytes-spec =
     tie.close
     (tie.spec
-    Inv-loop
-    μ-loop
-    loop-holds
-    mul-slot
-    shared-slice-read-slot
-    mul-slot-2
-    add-slot
-    shared-slice-read-slot-2
-    mul-slot-3
-    add-slot-2
-    slice-write-slot
-    add-j
-    loop-less
-    loop-again
-    same-length
-    returns)
+    Inv-loop μ-loop loop-holds (λ c. search needs) (λ c. search needs) (λ c. search needs) (λ c. search needs)
+    (λ c. search needs) mul-slot-3 add-slot-2 (λ c. search needs) (λ c. search needs) (λ c. search needs)
+    loop-again same-length returns)

@@ -4,24 +4,6 @@ use borrow.Author.Needs.{needs}
 use Rattle.slot_interleaving.proofs.place_word.Statement.{statement}
 use Rattle.slot_interleaving.proofs.place_word.Tie as tie
 
-signature-row-requires : tie.Need-signature-row-requires
-signature-row-requires c κs = search needs
-
-slice-aggregate-scatter-data : tie.Need-slice-aggregate-scatter-data
-slice-aggregate-scatter-data c = search needs
-
-scatter-data-requires : tie.Need-scatter-data-requires
-scatter-data-requires c κs = search needs
-
-slice-aggregate-scatter-checks : tie.Need-slice-aggregate-scatter-checks
-slice-aggregate-scatter-checks c = search needs
-
-scatter-checks-requires : tie.Need-scatter-checks-requires
-scatter-checks-requires c κs = search needs
-
-same-length : tie.Need-same-length
-same-length c = search needs
-
 returns : tie.Need-returns
 returns c =
     let s = c .before .before .before .before .before .before .before .before .before .before .before .before .before in
@@ -35,10 +17,5 @@ pub place-word-spec : {M : Type 1} → statement M
 place-word-spec =
     tie.close
     (tie.spec
-    signature-row-requires
-    slice-aggregate-scatter-data
-    scatter-data-requires
-    slice-aggregate-scatter-checks
-    scatter-checks-requires
-    same-length
-    returns)
+    (λ c κs. search needs) (λ c. search needs) (λ c κs. search needs) (λ c. search needs)
+    (λ c κs. search needs) (λ c. search needs) returns)

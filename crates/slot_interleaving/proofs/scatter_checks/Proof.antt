@@ -42,33 +42,12 @@ below c =
     let h = c .before .before in
     place-below (s .args .size) (h .before .word-count .result) (s .args .i) (h .loop .k - 1) (s .pre .0 .size-from) (h .before .word-count .ensures .0) (s .pre .1) (in-word c)
 
-word-count-requires : tie.Need-word-count-requires Inv-loop μ-loop
-word-count-requires c κs = search needs
-
-sub-k : tie.Need-sub-k Inv-loop μ-loop
-sub-k c = search needs
-
-mul-k : tie.Need-mul-k Inv-loop μ-loop
-mul-k c = search needs
-
 loop-holds : tie.Need-loop-holds Inv-loop μ-loop
 loop-holds c =
     let s = c .before .before .before in
     let a = s .args in
     let n : ℕ = 2 * (a .mode - 1) in
     (omega arith, s .pre .3, digits-start n (a .r), span-none (a .size) (signature (a .mode)) (a .i) _ n n (a .places .now) (omega arith))
-
-sub-k-2 : tie.Need-sub-k-2 Inv-loop μ-loop
-sub-k-2 c = search needs
-
-cast-places : tie.Need-cast-places Inv-loop μ-loop
-cast-places c = search needs
-
-shared-slice-read-places : tie.Need-shared-slice-read-places Inv-loop μ-loop
-shared-slice-read-places c = search needs
-
-mul-places : tie.Need-mul-places Inv-loop μ-loop
-mul-places c = search needs
 
 mul-places-2 : tie.Need-mul-places-2 Inv-loop μ-loop
 mul-places-2 c =
@@ -83,12 +62,6 @@ sub-places-2 c = omega (arith, below c)
 
 sub-places-3 : tie.Need-sub-places-3 Inv-loop μ-loop
 sub-places-3 c = omega (arith, below c)
-
-slice-write-places : tie.Need-slice-write-places Inv-loop μ-loop
-slice-write-places c = search needs
-
-loop-less : tie.Need-loop-less Inv-loop μ-loop
-loop-less c = search needs
 
 loop-again : tie.Need-loop-again Inv-loop μ-loop
 loop-again c =
@@ -120,22 +93,6 @@ pub scatter-checks-spec : {M : Type 1} → statement M
 scatter-checks-spec =
     tie.close
     (tie.spec
-    Inv-loop
-    μ-loop
-    word-count-requires
-    sub-k
-    mul-k
-    loop-holds
-    sub-k-2
-    cast-places
-    shared-slice-read-places
-    mul-places
-    mul-places-2
-    sub-places
-    sub-places-2
-    sub-places-3
-    slice-write-places
-    loop-less
-    loop-again
-    same-length
-    returns)
+    Inv-loop μ-loop (λ c κs. search needs) (λ c. search needs) (λ c. search needs) loop-holds
+    (λ c. search needs) (λ c. search needs) (λ c. search needs) (λ c. search needs) mul-places-2 sub-places
+    sub-places-2 sub-places-3 (λ c. search needs) (λ c. search needs) loop-again same-length returns)

@@ -46,40 +46,16 @@ below c =
     place-below (s .args .size) (h .before .word-count .result) (s .args .i) (2 * (s .args .mode - 1) + h .loop .k)
     (s .pre .0 .size-from) (h .before .word-count .ensures .0) (s .pre .1) (in-word c)
 
-word-count-requires : tie.Need-word-count-requires Inv-loop μ-loop
-word-count-requires c κs = search needs
-
-sub-checks : tie.Need-sub-checks Inv-loop μ-loop
-sub-checks c = search needs
-
-mul-checks : tie.Need-mul-checks Inv-loop μ-loop
-mul-checks c = search needs
-
 loop-holds : tie.Need-loop-holds Inv-loop μ-loop
 loop-holds c =
     let s = c .before .before .before .before in
     let a = s .args in
     (omega arith, s .pre .4, summed-none (a .rows .now) (λ j. getD (a .info .now) j 0), span-none (a .size) (signature (a .mode)) (a .i) _ _ _ (a .places .now) (omega arith))
 
-shared-slice-read-c : tie.Need-shared-slice-read-c Inv-loop μ-loop
-shared-slice-read-c c = search needs
-
-with-data-requires : tie.Need-with-data-requires Inv-loop μ-loop
-with-data-requires c κs = search needs
-
-add-places : tie.Need-add-places Inv-loop μ-loop
-add-places c = search needs
-
 shared-slice-read-places : tie.Need-shared-slice-read-places Inv-loop μ-loop
 shared-slice-read-places c =
     let s = c .before .before .before .before .before .before .before .before .before in
     omega (arith, in-word c, length-high (s .args .size) (s .args .i) (s .pre .0 .size-from), s .pre .3)
-
-mul-places : tie.Need-mul-places Inv-loop μ-loop
-mul-places c = search needs
-
-add-places-2 : tie.Need-add-places-2 Inv-loop μ-loop
-add-places-2 c = search needs
 
 mul-places-2 : tie.Need-mul-places-2 Inv-loop μ-loop
 mul-places-2 c =
@@ -99,12 +75,6 @@ slice-write-places : tie.Need-slice-write-places Inv-loop μ-loop
 slice-write-places c =
     let s = c .before .before .before .before .before .before .before .before .before in
     omega (arith, s .pre .0 .size-to, c .before .before .before .before .loop .inv .1)
-
-add-k : tie.Need-add-k Inv-loop μ-loop
-add-k c = search needs
-
-loop-less : tie.Need-loop-less Inv-loop μ-loop
-loop-less c = search needs
 
 loop-again : tie.Need-loop-again Inv-loop μ-loop
 loop-again c =
@@ -144,25 +114,7 @@ pub scatter-data-spec : {M : Type 1} → statement M
 scatter-data-spec =
     tie.close
     (tie.spec
-    Inv-loop
-    μ-loop
-    word-count-requires
-    sub-checks
-    mul-checks
-    loop-holds
-    shared-slice-read-c
-    with-data-requires
-    add-places
-    shared-slice-read-places
-    mul-places
-    add-places-2
-    mul-places-2
-    sub-places
-    sub-places-2
-    sub-places-3
-    slice-write-places
-    add-k
-    loop-less
-    loop-again
-    same-length
-    returns)
+    Inv-loop μ-loop (λ c κs. search needs) (λ c. search needs) (λ c. search needs) loop-holds
+    (λ c. search needs) (λ c κs. search needs) (λ c. search needs) shared-slice-read-places
+    (λ c. search needs) (λ c. search needs) mul-places-2 sub-places sub-places-2 sub-places-3
+    slice-write-places (λ c. search needs) (λ c. search needs) loop-again same-length returns)

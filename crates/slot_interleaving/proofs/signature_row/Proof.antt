@@ -18,4 +18,7 @@ returns-4 : tie.Need-returns-4
 returns-4 c = let a = c .before .before .args in (refl, signature-some (a .mode) (a .i) _ (omega arith) (row-four (a .mode) (omega arith)))
 
 pub signature-row-spec : {M : Type 1} → statement M
-signature-row-spec = tie.close (tie.spec returns returns-2 returns-3 returns-4)
+signature-row-spec =
+    tie.close
+    (tie.spec
+    returns returns-2 returns-3 returns-4)

@@ -20,40 +20,10 @@ Inv-loop size mode info slot count rows places₀ at₀ i₀ places at i = (i �
 abbrev μ-loop : tie.MeasureT-loop
 μ-loop size mode info slot count rows places₀ at₀ i₀ places at i = count - i
 
-word-count-requires : tie.Need-word-count-requires Inv-loop μ-loop
-word-count-requires c κs = search needs
-
-cast-check-rows : tie.Need-cast-check-rows Inv-loop μ-loop
-cast-check-rows c = search needs
-
-check-rows-requires : tie.Need-check-rows-requires Inv-loop μ-loop
-check-rows-requires c κs = search needs
-
 loop-holds : tie.Need-loop-holds Inv-loop μ-loop
 loop-holds c =
     let a = c .before .before .before .before .args in
     (omega arith, omega arith, start-first (a .size) (a .mode), placed-first (a .size) (signature (a .mode)) (codeWord (a .size) (a .mode) (a .info .now)) _ refl)
-
-word-length-requires : tie.Need-word-length-requires Inv-loop μ-loop
-word-length-requires c κs = search needs
-
-sub-e : tie.Need-sub-e Inv-loop μ-loop
-sub-e c = search needs
-
-mul-e : tie.Need-mul-e Inv-loop μ-loop
-mul-e c = search needs
-
-sub-e-2 : tie.Need-sub-e-2 Inv-loop μ-loop
-sub-e-2 c = search needs
-
-add-e : tie.Need-add-e Inv-loop μ-loop
-add-e c = search needs
-
-sub-place-word : tie.Need-sub-place-word Inv-loop μ-loop
-sub-place-word c = search needs
-
-part-place-word-start : tie.Need-part-place-word-start Inv-loop μ-loop
-part-place-word-start c = search needs
 
 part-place-word-end : tie.Need-part-place-word-end Inv-loop μ-loop
 part-place-word-end c =
@@ -80,12 +50,6 @@ place-word-requires c κs =
       h .before .check-rows .ensures .inside (s .pre .0 .mode-from) (s .pre .0 .mode-to),
       h .loop .inv .3 .long,
     )
-
-add-i : tie.Need-add-i Inv-loop μ-loop
-add-i c = search needs
-
-loop-less : tie.Need-loop-less Inv-loop μ-loop
-loop-less c = search needs
 
 loop-again : tie.Need-loop-again Inv-loop μ-loop
 loop-again c =
@@ -137,26 +101,8 @@ pub write-slot-spec : {M : Type 1} → statement M
 write-slot-spec =
     tie.close
     (tie.spec
-    Inv-loop
-    μ-loop
-    word-count-requires
-    cast-check-rows
-    check-rows-requires
-    loop-holds
-    word-length-requires
-    sub-e
-    mul-e
-    sub-e-2
-    add-e
-    sub-place-word
-    part-place-word-start
-    part-place-word-end
-    slice-aggregate-place-word
-    place-word-requires
-    add-i
-    loop-less
-    loop-again
-    slice-aggregate-pack-bytes
-    pack-bytes-requires
-    same-length
-    returns)
+    Inv-loop μ-loop (λ c κs. search needs) (λ c. search needs) (λ c κs. search needs) loop-holds
+    (λ c κs. search needs) (λ c. search needs) (λ c. search needs) (λ c. search needs) (λ c. search needs)
+    (λ c. search needs) (λ c. search needs) part-place-word-end slice-aggregate-place-word place-word-requires
+    (λ c. search needs) (λ c. search needs) loop-again slice-aggregate-pack-bytes pack-bytes-requires
+    same-length returns)

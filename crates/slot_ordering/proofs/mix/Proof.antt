@@ -6,32 +6,11 @@ use borrow.Author.Needs.{needs}
 use Rattle.slot_ordering.proofs.mix.Statement.{statement}
 use Rattle.slot_ordering.proofs.mix.Tie as tie
 
-word-count-requires : tie.Need-word-count-requires
-word-count-requires c κs = search needs
-
-first-hash-size-requires : tie.Need-first-hash-size-requires
-first-hash-size-requires c κs = search needs
-
-mul-swap : tie.Need-mul-swap
-mul-swap c = search needs
-
-sub-swap : tie.Need-sub-swap
-sub-swap c = search needs
-
 word-length-requires : tie.Need-word-length-requires
 word-length-requires c κs =
     let s = c .before .before .before .before in
     let w = words-low (s .args .size) (s .pre .0 .size-from) in
     omega (arith, s .pre .0 .size-from, s .pre .0 .size-to, c .before .before .word-count .ensures .0)
-
-mul-swap-2 : tie.Need-mul-swap-2
-mul-swap-2 c = search needs
-
-sub-swap-2 : tie.Need-sub-swap-2
-sub-swap-2 c = search needs
-
-sub-swap-3 : tie.Need-sub-swap-3
-sub-swap-3 c = search needs
 
 swap-requires : tie.Need-swap-requires
 swap-requires c κs =
@@ -39,9 +18,6 @@ swap-requires c κs =
     let a = s .args in
     let m = mix-inside (a .size) (a .mode) (c .before .first-hash-size .result) (c .word-length .result) (a .s .now) (s .pre .0) (s .pre .1) (c .before .first-hash-size .ensures .0) (c .word-length .ensures .0) in
     (m .0, m .1, s .pre .1 .below)
-
-same-length : tie.Need-same-length
-same-length c = search needs
 
 returns : tie.Need-returns
 returns c =
@@ -53,14 +29,5 @@ pub mix-spec : {M : Type 1} → statement M
 mix-spec =
     tie.close
     (tie.spec
-    word-count-requires
-    first-hash-size-requires
-    mul-swap
-    sub-swap
-    word-length-requires
-    mul-swap-2
-    sub-swap-2
-    sub-swap-3
-    swap-requires
-    same-length
-    returns)
+    (λ c κs. search needs) (λ c κs. search needs) (λ c. search needs) (λ c. search needs) word-length-requires
+    (λ c. search needs) (λ c. search needs) (λ c. search needs) swap-requires (λ c. search needs) returns)

@@ -9,33 +9,6 @@ use borrow.Author.Needs.{needs}
 use Rattle.slot_ordering.proofs.put_in_front.Statement.{statement}
 use Rattle.slot_ordering.proofs.put_in_front.Tie as tie
 
-first-hash-size-requires : tie.Need-first-hash-size-requires
-first-hash-size-requires c κs = search needs
-
-mul-h : tie.Need-mul-h
-mul-h c = search needs
-
-second-hash-size-requires : tie.Need-second-hash-size-requires
-second-hash-size-requires c κs = search needs
-
-mul-h-2 : tie.Need-mul-h-2
-mul-h-2 c = search needs
-
-add-h : tie.Need-add-h
-add-h c = search needs
-
-sub-put-heading : tie.Need-sub-put-heading
-sub-put-heading c = search needs
-
-part-put-heading-start : tie.Need-part-put-heading-start
-part-put-heading-start c = search needs
-
-part-put-heading-end : tie.Need-part-put-heading-end
-part-put-heading-end c = search needs
-
-array-borrow-prefix-head : tie.Need-array-borrow-prefix-head
-array-borrow-prefix-head c = search needs
-
 slice-aggregate-put-heading : tie.Need-slice-aggregate-put-heading
 slice-aggregate-put-heading c = sym (length-take-le (2 * c .before .before .before .before .first-hash-size .result + 2 * c .before .before .before .second-hash-size .result) blank (omega (arith, c .before .before .before .before .first-hash-size .ensures .2, c .before .before .before .second-hash-size .ensures .1)))
 
@@ -54,9 +27,6 @@ put-heading-requires c κs =
 slice-aggregate-copy-part : tie.Need-slice-aggregate-copy-part
 slice-aggregate-copy-part c = sym (length-front blank (c .before .before .put-heading .last .1 .1 .1 .1 .0) (2 * c .before .before .before .before .before .before .before .first-hash-size .result + 2 * c .before .before .before .before .before .before .second-hash-size .result) (c .before .before .put-heading .kept .1 .1 .1 .1 .0))
 
-slice-relend-prefix-copy-part : tie.Need-slice-relend-prefix-copy-part
-slice-relend-prefix-copy-part c = search needs
-
 slice-aggregate-copy-part-2 : tie.Need-slice-aggregate-copy-part-2
 slice-aggregate-copy-part-2 c = sym (length-take-le (2 * c .before .before .before .before .before .before .before .before .first-hash-size .result + 2 * c .before .before .before .before .before .before .before .second-hash-size .result) (c .before .before .before .before .before .before .before .before .before .before .args .out .now) (omega (arith, c .before .before .before .before .before .before .before .before .before .before .pre .2, c .before .before .before .before .before .before .before .before .first-hash-size .ensures .0, c .before .before .before .before .before .before .before .second-hash-size .ensures .0)))
 
@@ -69,9 +39,6 @@ copy-part-requires c κs =
     let l = length-front blank (c .before .before .before .put-heading .last .1 .1 .1 .1 .0) h (c .before .before .before .put-heading .kept .1 .1 .1 .1 .0) in
     let t = length-take-le h (s .args .out .now) (omega (arith, s .pre .2, f .ensures .0, g .ensures .0)) in
     omega (arith, f .ensures .2, g .ensures .1)
-
-same-length : tie.Need-same-length
-same-length c = search needs
 
 returns : tie.Need-returns
 returns c =
@@ -86,20 +53,7 @@ pub put-in-front-spec : {M : Type 1} → statement M
 put-in-front-spec =
     tie.close
     (tie.spec
-    first-hash-size-requires
-    mul-h
-    second-hash-size-requires
-    mul-h-2
-    add-h
-    sub-put-heading
-    part-put-heading-start
-    part-put-heading-end
-    array-borrow-prefix-head
-    slice-aggregate-put-heading
-    put-heading-requires
-    slice-aggregate-copy-part
-    slice-relend-prefix-copy-part
-    slice-aggregate-copy-part-2
-    copy-part-requires
-    same-length
-    returns)
+    (λ c κs. search needs) (λ c. search needs) (λ c κs. search needs) (λ c. search needs) (λ c. search needs)
+    (λ c. search needs) (λ c. search needs) (λ c. search needs) (λ c. search needs)
+    slice-aggregate-put-heading put-heading-requires slice-aggregate-copy-part (λ c. search needs)
+    slice-aggregate-copy-part-2 copy-part-requires (λ c. search needs) returns)

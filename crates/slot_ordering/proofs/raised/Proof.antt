@@ -5,12 +5,6 @@ use borrow.Author.Needs.{needs}
 use Rattle.slot_ordering.proofs.raised.Statement.{statement}
 use Rattle.slot_ordering.proofs.raised.Tie as tie
 
-mul-result : tie.Need-mul-result
-mul-result c = search needs
-
-mul-result-2 : tie.Need-mul-result-2
-mul-result-2 c = search needs
-
 returns : tie.Need-returns
 returns c = let a = c .before .args in (raised-forty (a .size) (a .request) (omega arith), omega arith)
 
@@ -18,4 +12,7 @@ returns-2 : tie.Need-returns-2
 returns-2 c = let a = c .before .args in (raised-other (a .size) (a .request) (λ e. omega arith), omega arith)
 
 pub raised-spec : {M : Type 1} → statement M
-raised-spec = tie.close (tie.spec mul-result mul-result-2 returns returns-2)
+raised-spec =
+    tie.close
+    (tie.spec
+    (λ c. search needs) (λ c. search needs) returns returns-2)

@@ -20,38 +20,11 @@ loop-holds c =
     let a = c .args in
     (omega arith, omega arith, filled-first (turned (a .frame .now)) (2 * length (a .frame .now)) (a .out .now) (omega arith))
 
-sub-b : tie.Need-sub-b Inv-loop μ-loop
-sub-b c = search needs
-
-sub-b-2 : tie.Need-sub-b-2 Inv-loop μ-loop
-sub-b-2 c = search needs
-
-shared-slice-read-b : tie.Need-shared-slice-read-b Inv-loop μ-loop
-shared-slice-read-b c = search needs
-
-mul-out : tie.Need-mul-out Inv-loop μ-loop
-mul-out c = search needs
-
-slice-write-out : tie.Need-slice-write-out Inv-loop μ-loop
-slice-write-out c = search needs
-
-mul-out-2 : tie.Need-mul-out-2 Inv-loop μ-loop
-mul-out-2 c = search needs
-
-add-out : tie.Need-add-out Inv-loop μ-loop
-add-out c = search needs
-
 slice-write-out-2 : tie.Need-slice-write-out-2 Inv-loop μ-loop
 slice-write-out-2 c =
     let h = c .before .before in
     let f = h .before .args .frame .now in
     omega (arith, length-set (h .loop .out) (2 * h .loop .k) (getD f (length f - 1 - h .loop .k) 0 / 16))
-
-add-k : tie.Need-add-k Inv-loop μ-loop
-add-k c = search needs
-
-loop-less : tie.Need-loop-less Inv-loop μ-loop
-loop-less c = search needs
 
 loop-again : tie.Need-loop-again Inv-loop μ-loop
 loop-again c =
@@ -73,19 +46,6 @@ pub unroll-spec : {M : Type 1} → statement M
 unroll-spec =
     tie.close
     (tie.spec
-    Inv-loop
-    μ-loop
-    loop-holds
-    sub-b
-    sub-b-2
-    shared-slice-read-b
-    mul-out
-    slice-write-out
-    mul-out-2
-    add-out
-    slice-write-out-2
-    add-k
-    loop-less
-    loop-again
-    same-length
-    returns)
+    Inv-loop μ-loop loop-holds (λ c. search needs) (λ c. search needs) (λ c. search needs) (λ c. search needs)
+    (λ c. search needs) (λ c. search needs) (λ c. search needs) slice-write-out-2 (λ c. search needs)
+    (λ c. search needs) loop-again same-length returns)

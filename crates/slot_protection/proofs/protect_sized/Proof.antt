@@ -11,36 +11,6 @@ use borrow.Author.Needs.{needs}
 use Rattle.slot_protection.proofs.protect_sized.Statement.{statement}
 use Rattle.slot_protection.proofs.protect_sized.Tie as tie
 
-frame-bytes-requires : tie.Need-frame-bytes-requires
-frame-bytes-requires c κs = search needs
-
-returns : tie.Need-returns
-returns c = search needs
-
-returns-2 : tie.Need-returns-2
-returns-2 c = search needs
-
-first-hash-size-requires : tie.Need-first-hash-size-requires
-first-hash-size-requires c κs = search needs
-
-mul-e : tie.Need-mul-e
-mul-e c = search needs
-
-second-hash-size-requires : tie.Need-second-hash-size-requires
-second-hash-size-requires c κs = search needs
-
-mul-e-2 : tie.Need-mul-e-2
-mul-e-2 c = search needs
-
-add-e : tie.Need-add-e
-add-e c = search needs
-
-mul-e-3 : tie.Need-mul-e-3
-mul-e-3 c = search needs
-
-add-e-2 : tie.Need-add-e-2
-add-e-2 c = search needs
-
 array-borrow-prefix-info : tie.Need-array-borrow-prefix-info
 array-borrow-prefix-info c =
     let s = c .before .before .before .before .before .before .before in
@@ -115,9 +85,6 @@ write-slot-requires c κs =
       omega (arith, c .before .before .before .before .before .before .before .if2 .left),
     )
 
-same-length : tie.Need-same-length
-same-length c = search needs
-
 returns-3 : tie.Need-returns-3
 returns-3 c =
     let s = c .before .before .before .before .before .before .before .before .before .before .before .before .before .before .before in
@@ -139,21 +106,7 @@ pub protect-sized-spec : {M : Type 1} → statement M
 protect-sized-spec =
     tie.close
     (tie.spec
-    frame-bytes-requires
-    returns
-    returns-2
-    first-hash-size-requires
-    mul-e
-    second-hash-size-requires
-    mul-e-2
-    add-e
-    mul-e-3
-    add-e-2
-    array-borrow-prefix-info
-    slice-aggregate-arrange
-    arrange-requires
-    array-share-prefix-info
-    slice-aggregate-write-slot
-    write-slot-requires
-    same-length
-    returns-3)
+    (λ c κs. search needs) (λ c. search needs) (λ c. search needs) (λ c κs. search needs) (λ c. search needs)
+    (λ c κs. search needs) (λ c. search needs) (λ c. search needs) (λ c. search needs) (λ c. search needs)
+    array-borrow-prefix-info slice-aggregate-arrange arrange-requires array-share-prefix-info
+    slice-aggregate-write-slot write-slot-requires (λ c. search needs) returns-3)

@@ -21,20 +21,11 @@ Inv-loop size mode all counts info₀ checks from₀ at₀ sum₀ i₀ info from
 abbrev μ-loop : tie.MeasureT-loop
 μ-loop size mode all counts info₀ checks from₀ at₀ sum₀ i₀ info from at sum i = length counts - i
 
-sub-checks : tie.Need-sub-checks Inv-loop μ-loop
-sub-checks c = search needs
-
-mul-checks : tie.Need-mul-checks Inv-loop μ-loop
-mul-checks c = search needs
-
 loop-holds : tie.Need-loop-holds Inv-loop μ-loop
 loop-holds c =
     let s = c .before .before .before in
     let a = s .args in
     (omega arith, omega arith, omega arith, omega arith, sym (total-none (wordLength (a .size))), start-first (a .size) (a .mode), gathered-first (a .size) (a .mode) (a .all .now) (a .counts .now) (a .info .now) (s .pre .4))
-
-shared-slice-read-n : tie.Need-shared-slice-read-n Inv-loop μ-loop
-shared-slice-read-n c = search needs
 
 cast-if1 : tie.Need-cast-if1 Inv-loop μ-loop
 cast-if1 c = record { fits = omega (arith, c .shared-slice-known3 .given (c .before .before .loop .i) .fits) }
@@ -44,12 +35,6 @@ same-length c = c .before .before .before .loop .inv .6 .given .long ∙ sym (c 
 
 returns : tie.Need-returns Inv-loop μ-loop
 returns c = record { word = c .before .before .before .loop .i; inside = omega (arith, c .before .before .before .before .before .before .before .pre .3, c .before .before .loop-test .taken); none = omega (arith, c .if1 .taken) }
-
-word-length-requires : tie.Need-word-length-requires Inv-loop μ-loop
-word-length-requires c κs = search needs
-
-sub-e : tie.Need-sub-e Inv-loop μ-loop
-sub-e c = search needs
 
 add-e : tie.Need-add-e Inv-loop μ-loop
 add-e c =
@@ -71,12 +56,6 @@ add-copy-part c =
     let l : h .i < words (a .size) = omega (arith, s .pre .3, t) in
     record { fits = omega (arith, words-high (a .size), s .pre .0 .size-to, l, h .inv .1, s .pre .0 .mode-to) }
 
-sub-copy-part : tie.Need-sub-copy-part Inv-loop μ-loop
-sub-copy-part c = search needs
-
-part-copy-part-start : tie.Need-part-copy-part-start Inv-loop μ-loop
-part-copy-part-start c = search needs
-
 part-copy-part-end : tie.Need-part-copy-part-end Inv-loop μ-loop
 part-copy-part-end c =
     let s = c .before .before .before .before .before .before .before .before in
@@ -97,9 +76,6 @@ copy-part-requires c κs =
     let l : h .i < words (a .size) = omega (arith, s .pre .3, t) in
     take-fits _ _ _ _ _ _ _ (s .pre .0) l (h .inv .5) (h .inv .6 .given) (w .ensures .0) refl _ (a .all .now) (a .counts .now) (s .pre .2) (h .inv .4) (s .pre .1)
 
-cast-sum : tie.Need-cast-sum Inv-loop μ-loop
-cast-sum c = search needs
-
 add-sum : tie.Need-add-sum Inv-loop μ-loop
 add-sum c =
     let s = c .before .before .before .before .before .before .before .before .before .before .before .before in
@@ -119,12 +95,6 @@ add-from c =
     let t = c .before .before .before .before .before .before .before .loop-test .taken in
     let l : h .i < words (a .size) = omega (arith, s .pre .3, t) in
     record { fits = omega (arith, words-high (a .size), s .pre .0 .size-to, l, h .inv .1, w .ensures .2) }
-
-add-i : tie.Need-add-i Inv-loop μ-loop
-add-i c = search needs
-
-loop-less : tie.Need-loop-less Inv-loop μ-loop
-loop-less c = search needs
 
 loop-again : tie.Need-loop-again Inv-loop μ-loop
 loop-again c =
@@ -159,28 +129,7 @@ pub gather-spec : {M : Type 1} → statement M
 gather-spec =
     tie.close
     (tie.spec
-    Inv-loop
-    μ-loop
-    sub-checks
-    mul-checks
-    loop-holds
-    shared-slice-read-n
-    cast-if1
-    same-length
-    returns
-    word-length-requires
-    sub-e
-    add-e
-    add-copy-part
-    sub-copy-part
-    part-copy-part-start
-    part-copy-part-end
-    copy-part-requires
-    cast-sum
-    add-sum
-    add-from
-    add-i
-    loop-less
-    loop-again
-    same-length-2
-    returns-2)
+    Inv-loop μ-loop (λ c. search needs) (λ c. search needs) loop-holds (λ c. search needs) cast-if1
+    same-length returns (λ c κs. search needs) (λ c. search needs) add-e add-copy-part (λ c. search needs)
+    (λ c. search needs) part-copy-part-end copy-part-requires (λ c. search needs) add-sum add-from
+    (λ c. search needs) (λ c. search needs) loop-again same-length-2 returns-2)

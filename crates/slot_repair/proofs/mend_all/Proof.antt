@@ -11,12 +11,6 @@ use Rattle.slot_repair.proofs.ReceiveSteps.{clean-slot}
 use Rattle.slot_repair.proofs.mend_all.Statement.{statement}
 use Rattle.slot_repair.proofs.mend_all.Tie as tie
 
-mul-places : tie.Need-mul-places
-mul-places c = search needs
-
-array-borrow-prefix-places : tie.Need-array-borrow-prefix-places
-array-borrow-prefix-places c = search needs
-
 slice-aggregate-unpack : tie.Need-slice-aggregate-unpack
 slice-aggregate-unpack c = let s = c .before .before .before in sym (length-take-le (2 * s .args .size) blanks (omega (arith, s .pre .0 .size-to)))
 
@@ -24,9 +18,6 @@ unpack-requires : tie.Need-unpack-requires
 unpack-requires c κs =
     let s = c .before .before .before in
     (omega (arith, s .pre .0 .size-to, s .pre .1), length-take-le (2 * s .args .size) blanks (omega (arith, s .pre .0 .size-to)) ∙ omega (arith, s .pre .1))
-
-mul-places-2 : tie.Need-mul-places-2
-mul-places-2 c = search needs
 
 array-share-prefix-places : tie.Need-array-share-prefix-places
 array-share-prefix-places c =
@@ -53,9 +44,6 @@ clean-requires c κs =
       s .pre .2,
     )
 
-same-length : tie.Need-same-length
-same-length c = search needs
-
 returns : tie.Need-returns
 returns c =
     let s = c .before .before .before .before .before .before .before .before .before .before .before in
@@ -64,9 +52,6 @@ returns c =
     let m = c .before .before .before .clean in
     clean-slot (a .size) (a .mode) (a .slot .now) _ (m .last .1 .1 .1 .0) (s .pre .0) (s .pre .1)
     (lent-is (a .size) (a .slot .now) (u .last .1 .0) (drop (2 * a .size) blanks) (s .pre .1) (u .ensures)) (m .ensures .0) (m .ensures .1 (c .if1 .taken))
-
-mul-places-3 : tie.Need-mul-places-3
-mul-places-3 c = search needs
 
 array-share-prefix-places-2 : tie.Need-array-share-prefix-places-2
 array-share-prefix-places-2 c =
@@ -93,9 +78,6 @@ repair-requires c κs =
       c .before .before .before .before .before .clean .ensures .0,
     )
 
-same-length-2 : tie.Need-same-length-2
-same-length-2 c = search needs
-
 returns-2 : tie.Need-returns-2
 returns-2 c =
     let s = c .before .before .before .before .before .before .before .before .before .before .before .before .before .before .before .before in
@@ -108,19 +90,7 @@ pub mend-all-spec : {M : Type 1} → statement M
 mend-all-spec =
     tie.close
     (tie.spec
-    mul-places
-    array-borrow-prefix-places
-    slice-aggregate-unpack
-    unpack-requires
-    mul-places-2
-    array-share-prefix-places
-    slice-aggregate-clean
-    clean-requires
-    same-length
-    returns
-    mul-places-3
-    array-share-prefix-places-2
-    slice-aggregate-repair
-    repair-requires
-    same-length-2
+    (λ c. search needs) (λ c. search needs) slice-aggregate-unpack unpack-requires (λ c. search needs)
+    array-share-prefix-places slice-aggregate-clean clean-requires (λ c. search needs) returns
+    (λ c. search needs) array-share-prefix-places-2 slice-aggregate-repair repair-requires (λ c. search needs)
     returns-2)

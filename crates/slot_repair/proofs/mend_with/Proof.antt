@@ -5,15 +5,6 @@ use Rattle.slot_repair.proofs.BatchSteps.{answered, repaired}
 use Rattle.slot_repair.proofs.mend_with.Statement.{statement}
 use Rattle.slot_repair.proofs.mend_with.Tie as tie
 
-receive-all-requires : tie.Need-receive-all-requires
-receive-all-requires c κs = search needs
-
-cast-correct-each : tie.Need-cast-correct-each
-cast-correct-each c = search needs
-
-correct-each-requires : tie.Need-correct-each-requires
-correct-each-requires c κs = search needs
-
 gather-requires : tie.Need-gather-requires
 gather-requires c κs =
     let s = c .before .before .before .before .before .before .before .before .before .before .before .before .before .before .before .before .before .before in
@@ -23,15 +14,6 @@ gather-requires c κs =
     let w = answered (a .size) (a .mode) (a .places .now) (r .last .1 .1 .1 .0) (a .counts .now) (s .pre .0) (r .ensures) (s .pre .4)
     (e .last .0) (e .last .1 .1 .0) (batchNumberOf (e .result)) (e .ensures) in
     (s .pre .0, w .long, w .below, w .many, s .pre .5)
-
-same-length : tie.Need-same-length
-same-length c = search needs
-
-same-length-2 : tie.Need-same-length-2
-same-length-2 c = search needs
-
-same-length-3 : tie.Need-same-length-3
-same-length-3 c = search needs
 
 returns : tie.Need-returns
 returns c =
@@ -48,11 +30,5 @@ pub mend-with-spec : {M : Type 1} → statement M
 mend-with-spec =
     tie.close
     (tie.spec
-    receive-all-requires
-    cast-correct-each
-    correct-each-requires
-    gather-requires
-    same-length
-    same-length-2
-    same-length-3
-    returns)
+    (λ c κs. search needs) (λ c. search needs) (λ c κs. search needs) gather-requires (λ c. search needs)
+    (λ c. search needs) (λ c. search needs) returns)

@@ -17,9 +17,6 @@ Inv-loop size i mode places row w₀ count k₀ w k = (k ≤ length w₀) × (le
 abbrev μ-loop : tie.MeasureT-loop
 μ-loop size i mode places row w₀ count k₀ w k = length w₀ - k
 
-word-count-requires : tie.Need-word-count-requires Inv-loop μ-loop
-word-count-requires c κs = search needs
-
 loop-holds : tie.Need-loop-holds Inv-loop μ-loop
 loop-holds c =
     let a = c .before .before .before .before .args in
@@ -34,9 +31,6 @@ below c =
     let s = begin c in
     let h = c .before in
     place-below (s .args .size) _ (s .args .i) (h .loop .k) (s .pre .0 .size-from) (h .before .word-count .ensures .0) (s .pre .1) (omega arith)
-
-mul-w : tie.Need-mul-w Inv-loop μ-loop
-mul-w c = search needs
 
 mul-w-2 : tie.Need-mul-w-2 Inv-loop μ-loop
 mul-w-2 c = let b = below c in omega arith
@@ -59,15 +53,6 @@ shared-slice-read-w-2 c =
     let l = length-high (s .args .size) (s .args .i) (s .pre .0 .size-from) in
     omega (arith, s .pre .3, s .pre .4, c .before .before .loop-test .taken, c .before .before .before .loop .inv .1)
 
-slice-write-w : tie.Need-slice-write-w Inv-loop μ-loop
-slice-write-w c = search needs
-
-add-k : tie.Need-add-k Inv-loop μ-loop
-add-k c = search needs
-
-loop-less : tie.Need-loop-less Inv-loop μ-loop
-loop-less c = search needs
-
 loop-again : tie.Need-loop-again Inv-loop μ-loop
 loop-again c =
     let s = begin (c .before .before) in
@@ -77,9 +62,6 @@ loop-again c =
     let g = arrived-next (a .size) (a .mode) (a .places .now) (a .i) (length (a .w .now)) (h .loop .k) _ _
     (h .loop .w) (h .loop .inv .2) (omega arith) p (s .pre .5 (h .loop .k)) in
     (omega arith, g .long, g)
-
-same-length : tie.Need-same-length Inv-loop μ-loop
-same-length c = search needs
 
 returns : tie.Need-returns Inv-loop μ-loop
 returns c =
@@ -92,20 +74,6 @@ pub receive-spec : {M : Type 1} → statement M
 receive-spec =
     tie.close
     (tie.spec
-    Inv-loop
-    μ-loop
-    word-count-requires
-    loop-holds
-    mul-w
-    mul-w-2
-    sub-w
-    sub-w-2
-    sub-w-3
-    shared-slice-read-w
-    shared-slice-read-w-2
-    slice-write-w
-    add-k
-    loop-less
-    loop-again
-    same-length
-    returns)
+    Inv-loop μ-loop (λ c κs. search needs) loop-holds (λ c. search needs) mul-w-2 sub-w sub-w-2 sub-w-3
+    shared-slice-read-w shared-slice-read-w-2 (λ c. search needs) (λ c. search needs) (λ c. search needs)
+    loop-again (λ c. search needs) returns)

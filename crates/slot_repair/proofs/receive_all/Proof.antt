@@ -14,16 +14,10 @@ Inv-loop size mode places all₀ count at₀ i₀ all at i = (i ≤ count) × Ar
 abbrev μ-loop : tie.MeasureT-loop
 μ-loop size mode places all₀ count at₀ i₀ all at i = count - i
 
-word-count-requires : tie.Need-word-count-requires Inv-loop μ-loop
-word-count-requires c κs = search needs
-
 loop-holds : tie.Need-loop-holds Inv-loop μ-loop
 loop-holds c =
     let s = c .before .before .before in
     (omega arith, arrived-none (s .args .size) (s .args .mode) (s .args .places .now) (s .args .all .now) (s .pre .3))
-
-word-length-requires : tie.Need-word-length-requires Inv-loop μ-loop
-word-length-requires c κs = search needs
 
 add-e : tie.Need-add-e Inv-loop μ-loop
 add-e c =
@@ -34,18 +28,6 @@ add-e c =
     let l : h .i < words (a .size) = omega (arith, c .before .before .before .word-count .ensures .0, c .before .loop-test .taken) in
     let e = arrives-end _ _ _ _ _ _ _ _ (s .pre .0) l (h .inv .1) (w .ensures .0) refl in
     record { fits = omega (arith, e, s .pre .0 .size-to) }
-
-signature-row-requires : tie.Need-signature-row-requires Inv-loop μ-loop
-signature-row-requires c κs = search needs
-
-slice-aggregate-receive : tie.Need-slice-aggregate-receive Inv-loop μ-loop
-slice-aggregate-receive c = search needs
-
-sub-receive : tie.Need-sub-receive Inv-loop μ-loop
-sub-receive c = search needs
-
-part-receive-start : tie.Need-part-receive-start Inv-loop μ-loop
-part-receive-start c = search needs
 
 part-receive-end : tie.Need-part-receive-end Inv-loop μ-loop
 part-receive-end c =
@@ -67,12 +49,6 @@ receive-requires c κs =
     let g = c .before .before .signature-row in
     (s .pre .0, l, s .pre .1, g .ensures .0, arrives-room _ _ _ _ _ _ _ _ (s .pre .0) l (h .inv .1) (w .ensures .0) refl, g .ensures .1)
 
-add-i : tie.Need-add-i Inv-loop μ-loop
-add-i c = search needs
-
-loop-less : tie.Need-loop-less Inv-loop μ-loop
-loop-less c = search needs
-
 loop-again : tie.Need-loop-again Inv-loop μ-loop
 loop-again c =
     let s = c .before .before .before .before .before .before .before .before .before .before .before .before in
@@ -82,9 +58,6 @@ loop-again c =
     let l : h .i < words (a .size) = omega (arith, c .before .before .before .before .before .before .before .before .before .word-count .ensures .0, c .before .before .before .before .before .before .before .loop-test .taken) in
     let r = c .before .before .receive in
     (omega (arith, c .before .before .before .before .before .before .before .loop-test .taken), arrived-one _ _ _ _ _ _ _ _ (s .pre .0) l (h .inv .1) (w .ensures .0) refl (r .last .1 .1 .1 .1 .1 .0) (r .ensures))
-
-same-length : tie.Need-same-length Inv-loop μ-loop
-same-length c = search needs
 
 returns : tie.Need-returns Inv-loop μ-loop
 returns c =
@@ -98,20 +71,6 @@ pub receive-all-spec : {M : Type 1} → statement M
 receive-all-spec =
     tie.close
     (tie.spec
-    Inv-loop
-    μ-loop
-    word-count-requires
-    loop-holds
-    word-length-requires
-    add-e
-    signature-row-requires
-    slice-aggregate-receive
-    sub-receive
-    part-receive-start
-    part-receive-end
-    receive-requires
-    add-i
-    loop-less
-    loop-again
-    same-length
-    returns)
+    Inv-loop μ-loop (λ c κs. search needs) loop-holds (λ c κs. search needs) add-e (λ c κs. search needs)
+    (λ c. search needs) (λ c. search needs) (λ c. search needs) part-receive-end receive-requires
+    (λ c. search needs) (λ c. search needs) loop-again (λ c. search needs) returns)

@@ -9,22 +9,10 @@ use Rattle.slot_laws.proofs.ProtectSteps.{blanks}
 use Rattle.slot_repair.proofs.repair.Statement.{statement}
 use Rattle.slot_repair.proofs.repair.Tie as tie
 
-word-count-requires : tie.Need-word-count-requires
-word-count-requires c κs = search needs
-
-mul-all : tie.Need-mul-all
-mul-all c = search needs
-
-array-borrow-prefix-all : tie.Need-array-borrow-prefix-all
-array-borrow-prefix-all c = search needs
-
 slice-aggregate-mend-with : tie.Need-slice-aggregate-mend-with
 slice-aggregate-mend-with c =
     let s = c .before .before .before .before in
     sym (length-take-le (2 * s .args .size) blanks (omega (arith, s .pre .0 .size-to)))
-
-array-borrow-prefix-counts : tie.Need-array-borrow-prefix-counts
-array-borrow-prefix-counts c = search needs
 
 slice-aggregate-mend-with-2 : tie.Need-slice-aggregate-mend-with-2
 slice-aggregate-mend-with-2 c =
@@ -42,22 +30,9 @@ mend-with-requires c κs =
       s .pre .3,
     )
 
-same-length : tie.Need-same-length
-same-length c = search needs
-
-returns : tie.Need-returns
-returns c = search needs
-
 pub repair-spec : {M : Type 1} → statement M
 repair-spec =
     tie.close
     (tie.spec
-    word-count-requires
-    mul-all
-    array-borrow-prefix-all
-    slice-aggregate-mend-with
-    array-borrow-prefix-counts
-    slice-aggregate-mend-with-2
-    mend-with-requires
-    same-length
-    returns)
+    (λ c κs. search needs) (λ c. search needs) (λ c. search needs) slice-aggregate-mend-with
+    (λ c. search needs) slice-aggregate-mend-with-2 mend-with-requires (λ c. search needs) (λ c. search needs))

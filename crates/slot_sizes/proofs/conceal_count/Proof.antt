@@ -9,18 +9,6 @@ use Rattle.slot_sizes.proofs.conceal_count.Tie as tie
 returns : tie.Need-returns
 returns c = let a = c .before .args in sym (conceal-small (a .size) (a .mode) (omega arith))
 
-mul-result : tie.Need-mul-result
-mul-result c = search needs
-
-sub-result : tie.Need-sub-result
-sub-result c = search needs
-
-mul-result-2 : tie.Need-mul-result-2
-mul-result-2 c = search needs
-
-sub-result-2 : tie.Need-sub-result-2
-sub-result-2 c = search needs
-
 returns-2 : tie.Need-returns-2
 returns-2 c = let a = c .before .before .args in sym (conceal-three (a .size) (a .mode) (omega arith) (omega arith) (omega arith))
 
@@ -34,11 +22,5 @@ pub conceal-count-spec : {M : Type 1} → statement M
 conceal-count-spec =
     tie.close
     (tie.spec
-    returns
-    mul-result
-    sub-result
-    mul-result-2
-    sub-result-2
-    returns-2
-    returns-3
-    returns-4)
+    returns (λ c. search needs) (λ c. search needs) (λ c. search needs) (λ c. search needs) returns-2
+    returns-3 returns-4)

@@ -15,12 +15,6 @@ Inv-loop size mode count n sum₀ k₀ sum k = (k ≤ n) × (sum ≤ 15 * k) × 
 abbrev μ-loop : tie.MeasureT-loop
 μ-loop size mode count n sum₀ k₀ sum k = n - k
 
-word-count-requires : tie.Need-word-count-requires Inv-loop μ-loop
-word-count-requires c κs = search needs
-
-conceal-count-requires : tie.Need-conceal-count-requires Inv-loop μ-loop
-conceal-count-requires c κs = search needs
-
 loop-holds : tie.Need-loop-holds Inv-loop μ-loop
 loop-holds c = let a = c .before .before .args in (omega arith, omega arith, block-none (a .size) (a .mode))
 
@@ -33,23 +27,11 @@ sub-word-length-2 c = let a = c .before .before .before .before .args in let f =
 word-length-requires : tie.Need-word-length-requires Inv-loop μ-loop
 word-length-requires c κs = let a = c .before .before .before .before .args in let f = conceal-few (a .size) (a .mode) (omega arith) in omega arith
 
-sub-sum : tie.Need-sub-sum Inv-loop μ-loop
-sub-sum c = search needs
-
-mul-sum : tie.Need-mul-sum Inv-loop μ-loop
-mul-sum c = search needs
-
 sub-sum-2 : tie.Need-sub-sum-2 Inv-loop μ-loop
 sub-sum-2 c = omega arith
 
 add-sum : tie.Need-add-sum Inv-loop μ-loop
 add-sum c = let a = c .before .before .before .before .before .args in let f = conceal-few (a .size) (a .mode) (omega arith) in omega arith
-
-add-k : tie.Need-add-k Inv-loop μ-loop
-add-k c = search needs
-
-loop-less : tie.Need-loop-less Inv-loop μ-loop
-loop-less c = search needs
 
 loop-again : tie.Need-loop-again Inv-loop μ-loop
 loop-again c =
@@ -71,19 +53,6 @@ pub conceal-size-spec : {M : Type 1} → statement M
 conceal-size-spec =
     tie.close
     (tie.spec
-    Inv-loop
-    μ-loop
-    word-count-requires
-    conceal-count-requires
-    loop-holds
-    sub-word-length
-    sub-word-length-2
-    word-length-requires
-    sub-sum
-    mul-sum
-    sub-sum-2
-    add-sum
-    add-k
-    loop-less
-    loop-again
-    returns)
+    Inv-loop μ-loop (λ c κs. search needs) (λ c κs. search needs) loop-holds sub-word-length sub-word-length-2
+    word-length-requires (λ c. search needs) (λ c. search needs) sub-sum-2 add-sum (λ c. search needs)
+    (λ c. search needs) loop-again returns)

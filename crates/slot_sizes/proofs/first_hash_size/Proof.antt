@@ -12,4 +12,7 @@ returns-2 : tie.Need-returns-2
 returns-2 c = (sym (hash1-other (c .before .args .size) (λ e. omega arith)), omega arith, omega arith)
 
 pub first-hash-size-spec : {M : Type 1} → statement M
-first-hash-size-spec = tie.close (tie.spec returns returns-2)
+first-hash-size-spec =
+    tie.close
+    (tie.spec
+    returns returns-2)

@@ -6,24 +6,6 @@ use borrow.Author.Needs.{needs}
 use Rattle.slot_sizes.proofs.frame_bytes.Statement.{statement}
 use Rattle.slot_sizes.proofs.frame_bytes.Tie as tie
 
-first-hash-size-requires : tie.Need-first-hash-size-requires
-first-hash-size-requires c κs = search needs
-
-sub-result : tie.Need-sub-result
-sub-result c = search needs
-
-second-hash-size-requires : tie.Need-second-hash-size-requires
-second-hash-size-requires c κs = search needs
-
-sub-result-2 : tie.Need-sub-result-2
-sub-result-2 c = search needs
-
-word-count-requires : tie.Need-word-count-requires
-word-count-requires c κs = search needs
-
-sub-result-3 : tie.Need-sub-result-3
-sub-result-3 c = search needs
-
 mul-result : tie.Need-mul-result
 mul-result c =
     let a = c .before .before .before .args in
@@ -45,12 +27,5 @@ pub frame-bytes-spec : {M : Type 1} → statement M
 frame-bytes-spec =
     tie.close
     (tie.spec
-    first-hash-size-requires
-    sub-result
-    second-hash-size-requires
-    sub-result-2
-    word-count-requires
-    sub-result-3
-    mul-result
-    sub-result-4
-    returns)
+    (λ c κs. search needs) (λ c. search needs) (λ c κs. search needs) (λ c. search needs)
+    (λ c κs. search needs) (λ c. search needs) mul-result sub-result-4 returns)

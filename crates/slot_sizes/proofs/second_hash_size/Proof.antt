@@ -15,4 +15,7 @@ returns-3 : tie.Need-returns-3
 returns-3 c = let a = c .before .before .args in (sym (hash2-large (a .size) (a .mode) (omega arith) (omega arith)), omega arith)
 
 pub second-hash-size-spec : {M : Type 1} → statement M
-second-hash-size-spec = tie.close (tie.spec returns returns-2 returns-3)
+second-hash-size-spec =
+    tie.close
+    (tie.spec
+    returns returns-2 returns-3)

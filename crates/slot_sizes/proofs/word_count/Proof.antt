@@ -7,14 +7,11 @@ use borrow.Author.Needs.{needs}
 use Rattle.slot_sizes.proofs.word_count.Statement.{statement}
 use Rattle.slot_sizes.proofs.word_count.Tie as tie
 
-mul-result : tie.Need-mul-result
-mul-result c = search needs
-
-add-result : tie.Need-add-result
-add-result c = search needs
-
 returns : tie.Need-returns
 returns c = let a = c .args in word-count-is (a .size) ((2 * a .size + 14) / 15) (omega arith) refl
 
 pub word-count-spec : {M : Type 1} → statement M
-word-count-spec = tie.close (tie.spec mul-result add-result returns)
+word-count-spec =
+    tie.close
+    (tie.spec
+    (λ c. search needs) (λ c. search needs) returns)

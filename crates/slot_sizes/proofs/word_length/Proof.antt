@@ -8,17 +8,11 @@ use borrow.Author.Needs.{needs}
 use Rattle.slot_sizes.proofs.word_length.Statement.{statement}
 use Rattle.slot_sizes.proofs.word_length.Tie as tie
 
-mul-result : tie.Need-mul-result
-mul-result c = search needs
-
 sub-result : tie.Need-sub-result
 sub-result c = let w = words-thirteen (c .args .size) (omega arith) in omega arith
 
 sub-result-2 : tie.Need-sub-result-2
 sub-result-2 c = let w = words-thirteen (c .args .size) (omega arith) in omega arith
-
-div-result : tie.Need-div-result
-div-result c = search needs
 
 add-result : tie.Need-add-result
 add-result c =
@@ -33,4 +27,6 @@ returns c =
 
 pub word-length-spec : {M : Type 1} → statement M
 word-length-spec =
-    tie.close (tie.spec mul-result sub-result sub-result-2 div-result add-result returns)
+    tie.close
+    (tie.spec
+    (λ c. search needs) sub-result sub-result-2 (λ c. search needs) add-result returns)

@@ -5,12 +5,6 @@ use Rattle.code_word_laws.proofs.Tests.{fits-not, fits-checked}
 use Rattle.code_word.proofs.settings.fits.Statement.{statement}
 use Rattle.code_word.proofs.settings.fits.Tie as tie
 
-mul-result : tie.Need-mul-result
-mul-result c = search needs
-
-sub-result : tie.Need-sub-result
-sub-result c = search needs
-
 returns : tie.Need-returns
 returns c =
     let a = c .before .before .before .before .args in
@@ -30,4 +24,6 @@ returns-5 c = fits-not _ _ (λ f. omega (arith, f .most))
 
 pub fits-spec : {M : Type 1} → statement M
 fits-spec =
-    tie.close (tie.spec mul-result sub-result returns returns-2 returns-3 returns-4 returns-5)
+    tie.close
+    (tie.spec
+    (λ c. search needs) (λ c. search needs) returns returns-2 returns-3 returns-4 returns-5)

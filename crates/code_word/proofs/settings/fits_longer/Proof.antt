@@ -7,14 +7,11 @@ use Rattle.code_word.proofs.settings.fits_longer.Tie as tie
 returns : tie.Need-returns
 returns c = longer-none _ (c .before .args .over) (c .if1 .taken)
 
-add-fits : tie.Need-add-fits
-add-fits c = search needs
-
-fits-requires : tie.Need-fits-requires
-fits-requires c κs = search needs
-
 returns-2 : tie.Need-returns-2
 returns-2 c = longer-some _ (c .before .before .args .over) (c .fits2 .result) (c .before .if1 .left) (c .fits2 .ensures)
 
 pub fits-longer-spec : {M : Type 1} → statement M
-fits-longer-spec = tie.close (tie.spec returns add-fits fits-requires returns-2)
+fits-longer-spec =
+    tie.close
+    (tie.spec
+    returns (λ c. search needs) (λ c κs. search needs) returns-2)

@@ -5,9 +5,6 @@ use borrow.Author.Needs.{needs}
 use Rattle.code_word_encoder.proofs.checks.check_rows.Statement.{statement}
 use Rattle.code_word_encoder.proofs.checks.check_rows.Tie as tie
 
-rows-of-requires : tie.Need-rows-of-requires
-rows-of-requires c κs = search needs
-
 returns : tie.Need-returns
 returns c = record { inside = λ a b. c .rows-of .ensures; outside = λ n. absurd (n (omega arith) (omega arith)) }
 
@@ -18,4 +15,7 @@ returns-3 : tie.Need-returns-3
 returns-3 c = record { inside = λ a b. absurd (omega arith); outside = λ n. refl }
 
 pub check-rows-spec : {M : Type 1} → statement M
-check-rows-spec = tie.close (tie.spec rows-of-requires returns returns-2 returns-3)
+check-rows-spec =
+    tie.close
+    (tie.spec
+    (λ c κs. search needs) returns returns-2 returns-3)

@@ -23,4 +23,7 @@ unfolding registerRows tab alone register feedback rowsFrom row gathered rooted 
 returns-3 c = let e : c .before .args .mode ≡ 4 = omega arith in rw e (sym (rows-register 6 (omega arith)))
 
 pub rows-of-spec : {M : Type 1} → statement M
-rows-of-spec = tie.close (tie.spec returns returns-2 returns-3)
+rows-of-spec =
+    tie.close
+    (tie.spec
+    returns returns-2 returns-3)

@@ -9,4 +9,7 @@ unfolding sum
 returns c = refl
 
 pub sum-spec : {M : Type 1} → statement M
-sum-spec = tie.close (tie.spec returns)
+sum-spec =
+    tie.close
+    (tie.spec
+    returns)
