@@ -43,7 +43,7 @@ pub fn make(word: &mut [u8], mode: u32) -> Making
     }
     let rows = code_word_encoder::rows(mode);
     let r = code_word_encoder::divide(&rows, word, n);
-    code_word_encoder::pour(word, n, r);
+    code_word_encoder::put_checks(word, n, r);
     Making::Made
 }
 
@@ -76,7 +76,7 @@ pub fn correct(word: &mut [u8], mode: u32) -> Correction
     }
     let most = (mode - 1) as u8;
     let t = code_word_locator::table();
-    let count = code_word_corrector::mend(&t, word, most);
+    let count = code_word_corrector::correct_word(&t, word, most);
     if most < count {
         return Correction::None;
     }
@@ -104,6 +104,6 @@ pub fn correct_each(words: &mut [u8], mode: u32, counts: &mut [u8]) -> Answers
     }
     let most = (mode - 1) as u8;
     let t = code_word_locator::table();
-    code_word_corrector::mend_each(&t, words, long, over, most, counts);
+    code_word_corrector::correct_words(&t, words, long, over, most, counts);
     Answers::Given
 }

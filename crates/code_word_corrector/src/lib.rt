@@ -1,4 +1,4 @@
-// How words are corrected. A word whose syndromes are 0 is left at once; where they are those of one error, it is taken off; else the rule
+// How words are corrected. A word whose syndromes are 0 is left at once; where they are those of one error, it is taken off; else the locator
 // of `code_word_locator` gives fifteen sums, and these the errors. The word with them taken off is tested, and put back where it is not
 // valid.
 // Inner: `code_word` stands over it. It asks for the locator's table, for t from 1 to 3 and for words of at most 15 semi-octets.
@@ -9,18 +9,18 @@ ghost use lib.ListN.{length};
 ghost use Rattle.laws.specs.Decides.{Decides};
 ghost use Rattle.laws.specs.Tab.{pick};
 ghost use Rattle.code_word_laws.specs.Word.{SemiOctets, apart};
-ghost use Rattle.code_word_laws.specs.Correct.{Mended, EachMended};
-ghost use Rattle.code_word_laws.specs.Corrector.{Table, Spectrum, Transformed, Guessed, Acceptable, Dealt, Tried, mended};
+ghost use Rattle.code_word_laws.specs.Correct.{WordCorrected, EachCorrected};
+ghost use Rattle.code_word_laws.specs.Corrector.{Table, Syndromes, Transformed, ErrorWord, Acceptable, Dealt, Tried, takenOff};
 use code_word_locator::clear;
+use code_word_locator::find_locator;
 use code_word_locator::inverted;
 use code_word_locator::logarithm;
 use code_word_locator::row;
-use code_word_locator::ruled;
-use code_word_locator::spectrum;
+use code_word_locator::syndromes;
 use code_word_locator::times;
 use code_word_locator::tripled;
 
-// The errors, packed: fifteen sums by the rule, each transformed back as it is made.
+// The error values, packed: fifteen sums by the locator, each transformed back as it is made.
 fn errors(t: &[u32; 512], r1: u8, r2: u8, r3: u8, s1: u8, s2: u8, u: u8) -> u64
     requires { ⌜ Table (now t) × (r1 < 16) × (r2 < 16) × (r3 < 16) × (s1 < 16) × (s2 < 16) × (u < 16) ⌝ }
     ensures { λ e. ⌜ Transformed r1 r2 r3 s1 s2 u e ⌝ }
@@ -41,12 +41,12 @@ fn errors(t: &[u32; 512], r1: u8, r2: u8, r3: u8, s1: u8, s2: u8, u: u8) -> u64
     e
 }
 
-// The errors that explain the syndromes, if at most t do.
-fn guess(t: &[u32; 512], s: u64, most: u8) -> u64
+// The error word: the errors that explain the syndromes, if at most t do.
+fn error_word(t: &[u32; 512], s: u64, most: u8) -> u64
     requires { ⌜ Table (now t) × (1 ≤ most) × (most ≤ 3) ⌝ }
-    ensures { λ e. ⌜ Guessed most s e ⌝ }
+    ensures { λ e. ⌜ ErrorWord most s e ⌝ }
 {
-    let r = ruled(t, s, most);
+    let r = find_locator(t, s, most);
     let s1 = (s / 16 % 16) as u8;
     let s2 = (s / 16 / 16 % 16) as u8;
     errors(t, r.0, r.1, r.2, s1, s2, r.3)
@@ -55,7 +55,7 @@ fn guess(t: &[u32; 512], s: u64, most: u8) -> u64
 // Takes the errors off, and counts them.
 fn take_off(word: &mut [u8], e: u64) -> u8
     requires { ⌜ length (now word) ≤ 15 ⌝ }
-    ensures { λ r. ⌜ (now (word .exit) ≡ mended (now (word .entry)) e) × (r ≡ apart (now (word .entry)) (now (word .exit))) ⌝ }
+    ensures { λ r. ⌜ (now (word .exit) ≡ takenOff (now (word .entry)) e) × (r ≡ apart (now (word .entry)) (now (word .exit))) ⌝ }
 {
     let mut rest = e;
     let mut count: u8 = 0;
@@ -78,12 +78,12 @@ fn accepted(t: &[u32; 512], word: &[u8], most: u8, count: u8) -> bool
     if most < count {
         return false;
     }
-    clear(spectrum(t, word), most)
+    clear(syndromes(t, word), most)
 }
 
 // Takes one error off, where the syndromes are those of one: its value times its place is s1, and times its place again s2.
-fn mend_one(t: &[u32; 512], word: &mut [u8], s: u64, most: u8) -> bool
-    requires { ⌜ Table (now t) × (1 ≤ most) × (most ≤ 3) × (length (now word) ≤ 15) × SemiOctets (now word) × Spectrum (now word) s ⌝ }
+fn correct_one(t: &[u32; 512], word: &mut [u8], s: u64, most: u8) -> bool
+    requires { ⌜ Table (now t) × (1 ≤ most) × (most ≤ 3) × (length (now word) ≤ 15) × SemiOctets (now word) × Syndromes (now word) s ⌝ }
     ensures { λ r. ⌜ Tried (most + 1) (now (word .entry)) (now (word .exit)) r ⌝ }
 {
     let s1 = (s / 16 % 16) as u8;
@@ -104,18 +104,18 @@ fn mend_one(t: &[u32; 512], word: &mut [u8], s: u64, most: u8) -> bool
 }
 
 // Corrects one word with a lent table: the count of changed semi-octets, or t + 1 where no valid word is near, and then the word is as it was lent.
-pub fn mend(t: &[u32; 512], word: &mut [u8], most: u8) -> u8
+pub fn correct_word(t: &[u32; 512], word: &mut [u8], most: u8) -> u8
     requires { ⌜ Table (now t) × (1 ≤ most) × (most ≤ 3) × (length (now word) ≤ 15) × SemiOctets (now word) ⌝ }
-    ensures { λ r. ⌜ Mended (most + 1) (now (word .entry)) (now (word .exit)) r ⌝ }
+    ensures { λ r. ⌜ WordCorrected (most + 1) (now (word .entry)) (now (word .exit)) r ⌝ }
 {
-    let s = spectrum(t, word);
+    let s = syndromes(t, word);
     if clear(s, most) {
         return 0;
     }
-    if mend_one(t, word, s, most) {
+    if correct_one(t, word, s, most) {
         return 1;
     }
-    let e = guess(t, s, most);
+    let e = error_word(t, s, most);
     let count = take_off(word, e);
     if accepted(t, word, most, count) {
         return count;
@@ -136,7 +136,7 @@ fn dealt(long: usize, over: usize, i: usize) -> usize
 }
 
 // Corrects each word with a lent table, and leaves its count, or t + 1 where it has none.
-pub fn mend_each(
+pub fn correct_words(
     t: &[u32; 512],
     words: &mut [u8],
     long: usize,
@@ -145,13 +145,13 @@ pub fn mend_each(
     counts: &mut [u8],
 )
     requires { ⌜ Table (now t) × (1 ≤ most) × (most ≤ 3) × Dealt (length (now words)) (length (now counts)) long over × SemiOctets (now words) ⌝ }
-    ensures { λ r. ⌜ EachMended (most + 1) (now (words .entry)) (now (words .exit)) (now (counts .exit)) ⌝ }
+    ensures { λ r. ⌜ EachCorrected (most + 1) (now (words .entry)) (now (words .exit)) (now (counts .exit)) ⌝ }
 {
     let mut at = 0;
     let mut i = 0;
     while i < counts.len() {
         let end = at + dealt(long, over, i);
-        counts[i] = mend(t, &mut words[at..end], most);
+        counts[i] = correct_word(t, &mut words[at..end], most);
         at = end;
         i += 1;
     }

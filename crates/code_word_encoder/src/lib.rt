@@ -6,7 +6,7 @@ ghost use mathlib.Core.Path.{_≡_};
 ghost use Prim.Native.Nat.{_-_, _≤_, _<_};
 ghost use lib.ListN.{length, drop};
 ghost use Rattle.code_word_laws.specs.Word.{SemiOctets, distance};
-ghost use Rattle.code_word_laws.specs.Register.{feedback, fed, register, poured};
+ghost use Rattle.code_word_laws.specs.Register.{feedback, fed, register, withChecks};
 
 pub mod checks;
 
@@ -105,9 +105,9 @@ pub fn divide(rows: &[u64; 16], word: &[u8], n: usize) -> u64
 }
 
 // The digits of the register into the n check semi-octets.
-pub fn pour(word: &mut [u8], n: usize, register: u64)
+pub fn put_checks(word: &mut [u8], n: usize, register: u64)
     requires { ⌜ n ≤ length (now word) ⌝ }
-    ensures { λ q. ⌜ now (word .exit) ≡ poured n register (drop n (now (word .entry))) ⌝ }
+    ensures { λ q. ⌜ now (word .exit) ≡ withChecks n register (drop n (now (word .entry))) ⌝ }
 {
     let mut r = register;
     let mut k = n;

@@ -14,7 +14,7 @@ use lib.Seq.{getD-set-same, getD-set-other, length-take-le, take-at, drop-at, dr
 use borrow.Author.Tests.{eqb-true, eqb-false, ltb-true, ltb-false}
 use Rattle.laws.specs.Tab.{pick}
 use Rattle.code_word_laws.specs.Word.{SemiOctets}
-use Rattle.code_word_laws.specs.Correct.{Mended, lengthAt, startAt, EachMended}
+use Rattle.code_word_laws.specs.Correct.{WordCorrected, lengthAt, startAt, EachCorrected}
 use Rattle.code_word_laws.specs.Corrector.{Dealt}
 use Rattle.code_word_laws.proofs.Register.{drop-semi-octets}
 use Rattle.code_word_laws.proofs.Division.{take-semi-octets}
@@ -59,15 +59,15 @@ pub record MendedTo (mode many n : ℕ) (old : List ℕ) (i at : ℕ) (new count
   pub as-long : length new ≡ many
   pub as-many : length counts ≡ n
   pub behind : drop at new ≡ drop at old
-  pub each : (j : ℕ) → j < i → Mended mode (piece many n j old) (piece many n j new) (getD counts j 0)
+  pub each : (j : ℕ) → j < i → WordCorrected mode (piece many n j old) (piece many n j new) (getD counts j 0)
 
 pub batch-first : (mode : ℕ) (old counts : List ℕ) → MendedTo mode (length old) (length counts) old 0 0 old counts
 batch-first mode old counts = record { place = refl; as-long = refl; as-many = refl; behind = refl; each = λ j h. absurd (omega arith) }
 
 module _ (mode many n : ℕ) (old : List ℕ) (i at : ℕ) (new counts : List ℕ) (k : MendedTo mode many n old i at new counts) where
-  pub batch-last : many ≡ length old → n ≤ i → EachMended mode old new counts
+  pub batch-last : many ≡ length old → n ≤ i → EachCorrected mode old new counts
   batch-last m h j b =
-      subst₂ (λ (v w : List ℕ). Mended mode v w (getD counts j 0))
+      subst₂ (λ (v w : List ℕ). WordCorrected mode v w (getD counts j 0))
       (ap₂ (λ (x y : ℕ). piece x y j old) m (sym (k .as-many)))
       (ap₂ (λ (x y : ℕ). piece x y j new) (sym (k .as-long)) (sym (k .as-many)))
       (k .each j (omega (arith, k .as-many)))
@@ -86,7 +86,7 @@ module _ (mode many n : ℕ) (old : List ℕ) (i at : ℕ) (new counts : List �
     pub batch-semi : SemiOctets old → SemiOctets (take long (drop at new))
     batch-semi s = rw (k .behind) (take-semi-octets long (drop at old) (drop-semi-octets at old s))
 
-    module _ (last : List ℕ) (r : ℕ) (long-last : length last ≡ long) (mended : Mended mode (take long (drop at new)) last r) where
+    module _ (last : List ℕ) (r : ℕ) (long-last : length last ≡ long) (takenOff : WordCorrected mode (take long (drop at new)) last r) where
       abbrev rest : List ℕ
       rest = drop long (drop at new)
 
@@ -112,10 +112,10 @@ module _ (mode many n : ℕ) (old : List ℕ) (i at : ℕ) (new counts : List �
           ∙ ap (λ (l : List ℕ). take long l) rear
           ∙ take-at last rest long long-last
 
-      each-next : (j : ℕ) → j < suc i → (b : Bool) → eqb j i ≡ b → Mended mode (piece many n j old) (piece many n j after) (getD (set counts i r) j 0)
+      each-next : (j : ℕ) → j < suc i → (b : Bool) → eqb j i ≡ b → WordCorrected mode (piece many n j old) (piece many n j after) (getD (set counts i r) j 0)
       each-next j h true e =
           let s = eqb-true j i e in
-          rw (s, now-done, getD-set-same counts i r 0 (omega (arith, k .as-many))) (rw batch-word at mended)
+          rw (s, now-done, getD-set-same counts i r 0 (omega (arith, k .as-many))) (rw batch-word at takenOff)
       each-next j h false e =
           let d : (j ≡ i → ⊥) = eqb-false j i e in
           rw (done j (omega arith), getD-set-other counts i j r 0 d) (k .each j (omega arith))

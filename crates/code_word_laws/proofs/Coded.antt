@@ -23,34 +23,34 @@ append-semi-octets [] ys s t = t
 append-semi-octets (x ∷ xs) ys s t = (s .0, append-semi-octets xs ys (s .1) t)
 
 -- what stands in front of the data is added at powers where the shifted data have none
-front : (n : ℕ) (rs info : List ℕ) (k : ℕ) → length rs ≡ n → getD (rs ++ info) k 0 ≡ sum (getD (replicate n 0 ++ info) k 0) (getD rs k 0)
-front zero [] info k e = sym (sum-zero (getD info k 0))
-front zero (r ∷ rs) info k e = absurd (omega arith)
-front (suc n) [] info k e = absurd (omega arith)
-front (suc n) (r ∷ rs) info zero e = sym (zero-sum r)
-front (suc n) (r ∷ rs) info (suc k) e = front n rs info k (omega arith)
+front : (n : ℕ) (rs message : List ℕ) (k : ℕ) → length rs ≡ n → getD (rs ++ message) k 0 ≡ sum (getD (replicate n 0 ++ message) k 0) (getD rs k 0)
+front zero [] message k e = sym (sum-zero (getD message k 0))
+front zero (r ∷ rs) message k e = absurd (omega arith)
+front (suc n) [] message k e = absurd (omega arith)
+front (suc n) (r ∷ rs) message zero e = sym (zero-sum r)
+front (suc n) (r ∷ rs) message (suc k) e = front n rs message k (omega arith)
 
 twice : (a b : ℕ) → sum (sum a b) b ≡ a
 twice a b = simp ring2
 
-pub coded-is : (d : ℕ) (info : List ℕ) → SemiOctets info → CodeWord d info (coded d info)
+pub coded-is : (d : ℕ) (message : List ℕ) → SemiOctets message → CodeWord d message (coded d message)
 unfolding coded generator
-coded-is d info s =
+coded-is d message s =
     let n = d - 1 in
     let g = rooted n in
-    let z = replicate n 0 ++ info in
-    let t = append-semi-octets (replicate n 0) info (zeros-semi-octets n) s in
+    let z = replicate n 0 ++ message in
+    let t = append-semi-octets (replicate n 0) message (zeros-semi-octets n) s in
     let l = remainder-length n g z in
     record {
-      semi-octets = append-semi-octets (remainder n g z) info (remainder-semi-octets n g z t) s;
-      long = length-append (remainder n g z) info ∙ ap (λ (k : ℕ). k + length info) l;
-      holds = drop-at (remainder n g z) info n l;
+      semi-octets = append-semi-octets (remainder n g z) message (remainder-semi-octets n g z t) s;
+      long = length-append (remainder n g z) message ∙ ap (λ (k : ℕ). k + length message) l;
+      holds = drop-at (remainder n g z) message n l;
       valid = record {
         quotient = quotient-by n g z;
         same = λ k.
             sym (twice (getD (multiplied (quotient-by n g z) g) k 0) (getD (remainder n g z) k 0))
             ∙ ap (λ (v : ℕ). sum v (getD (remainder n g z) k 0)) (divided n g z (rooted-monic n) t k)
-            ∙ sym (front n (remainder n g z) info k l);
+            ∙ sym (front n (remainder n g z) message k l);
       };
     }
 
@@ -66,10 +66,10 @@ apart-front (suc n) (x ∷ xs) [] e = omega arith
 apart-front (suc n) (x ∷ xs) (y ∷ ys) e = let r = apart-front n xs ys e in let u = unequal-le (eqb x y) in omega arith
 
 -- two code words over the same data
-pub code-word-only : (d : ℕ) (info v w : List ℕ) → 2 ≤ d → d - 1 + length info ≤ 15 → CodeWord d info v → CodeWord d info w → v ≡ w
-code-word-only d info v w a l p q =
+pub code-word-only : (d : ℕ) (message v w : List ℕ) → 2 ≤ d → d - 1 + length message ≤ 15 → CodeWord d message v → CodeWord d message w → v ≡ w
+code-word-only d message v w a l p q =
     let f = apart-front (d - 1) v w (p .holds ∙ sym (q .holds)) in
     unique d v w (p .long ∙ sym (q .long)) (omega (arith, p .long)) (p .semi-octets) (q .semi-octets) (p .valid) (q .valid) (omega arith)
 
-pub coded-only : (d : ℕ) (info w : List ℕ) → 2 ≤ d → d - 1 + length info ≤ 15 → SemiOctets info → CodeWord d info w → w ≡ coded d info
-coded-only d info w a l s p = code-word-only d info w (coded d info) a l p (coded-is d info s)
+pub coded-only : (d : ℕ) (message w : List ℕ) → 2 ≤ d → d - 1 + length message ≤ 15 → SemiOctets message → CodeWord d message w → w ≡ coded d message
+coded-only d message w a l s p = code-word-only d message w (coded d message) a l p (coded-is d message s)

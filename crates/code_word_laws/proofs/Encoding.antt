@@ -8,7 +8,7 @@ use lib.ListN.{length, getD, drop, set, length-drop, length-set}
 use lib.Seq.{drop-cons, drop-length, getD-drop, getD-set-same, drop-set-lt}
 use Rattle.code_word_laws.specs.Word.{SemiOctets, distance}
 use Rattle.code_word_laws.specs.Make.{CodeWord, IsMade, NotMade}
-use Rattle.code_word_laws.specs.Register.{feedback, fed, register, poured}
+use Rattle.code_word_laws.specs.Register.{feedback, fed, register, withChecks}
 use Rattle.code_word_laws.proofs.Division.{semi-octet-at}
 use Rattle.code_word_laws.proofs.Tests.{drop-back}
 use Rattle.code_word_laws.proofs.Coded.{code-word-only}
@@ -34,41 +34,41 @@ among w n i h s =
 
 -- ---- the digits
 
-pub pour-next : (k r : ℕ) (w l : List ℕ) → 0 < k → k ≤ length w → poured k r (drop k w) ≡ l
-    → poured (k - 1) (r / 16) (drop (k - 1) (set w (k - 1) (r % 16))) ≡ l
-unfolding poured
-pour-next zero r w l p h e = absurd (omega arith)
-pour-next (suc k) r w l p h e =
+pub put-checks-next : (k r : ℕ) (w l : List ℕ) → 0 < k → k ≤ length w → withChecks k r (drop k w) ≡ l
+    → withChecks (k - 1) (r / 16) (drop (k - 1) (set w (k - 1) (r % 16))) ≡ l
+unfolding withChecks
+put-checks-next zero r w l p h e = absurd (omega arith)
+put-checks-next (suc k) r w l p h e =
     let same : suc k - 1 ≡ k = omega arith in
     rw same
-    (ap (λ (t : List ℕ). poured k (r / 16) t)
+    (ap (λ (t : List ℕ). withChecks k (r / 16) t)
     (drop-cons (set w k (r % 16)) k 0 (omega (arith, length-set w k (r % 16)))
     ∙ ap₂ (λ (v : ℕ) (t : List ℕ). v ∷ t) (getD-set-same w k (r % 16) 0 (omega arith)) (drop-set-lt (suc k) w k (r % 16) (omega arith)))
     ∙ e)
 
-pub pour-last : (k r : ℕ) (w l : List ℕ) → k ≡ 0 → poured k r (drop k w) ≡ l → w ≡ l
-unfolding poured
-pour-last zero r w l e d = d
-pour-last (suc k) r w l e d = absurd (omega arith)
+pub put-checks-last : (k r : ℕ) (w l : List ℕ) → k ≡ 0 → withChecks k r (drop k w) ≡ l → w ≡ l
+unfolding withChecks
+put-checks-last zero r w l e d = d
+put-checks-last (suc k) r w l e d = absurd (omega arith)
 
 -- ---- the answers
 
 pub made : (mode n r : ℕ) (rows old new : List ℕ) → 2 ≤ mode → mode ≤ 4 → n ≡ distance mode - 1 → n ≤ length old → length old ≤ 15
-    → rows ≡ feedback (distance mode - 1) → SemiOctets (drop n old) → r ≡ register rows (drop n old) → new ≡ poured n r (drop n old)
+    → rows ≡ feedback (distance mode - 1) → SemiOctets (drop n old) → r ≡ register rows (drop n old) → new ≡ withChecks n r (drop n old)
     → IsMade mode old new
 made mode n r rows old new a b e h l t s d p =
     let k = distance mode - 1 in
-    let info = drop k old in
-    let semi : SemiOctets info = subst (λ (i : ℕ). SemiOctets (drop i old)) e s in
-    let is : new ≡ poured k (register (feedback k) info) info =
-    p ∙ ap (λ (v : ℕ). poured n v (drop n old)) (d ∙ ap (λ (u : List ℕ). register u (drop n old)) t)
-    ∙ ap (λ (i : ℕ). poured i (register (feedback k) (drop i old)) (drop i old)) e in
-    let word : CodeWord (distance mode) info new =
-    subst (λ (w : List ℕ). CodeWord (distance mode) info w) (sym is) (register-codes (distance mode) info (omega arith) (omega arith) semi) in
+    let message = drop k old in
+    let semi : SemiOctets message = subst (λ (i : ℕ). SemiOctets (drop i old)) e s in
+    let is : new ≡ withChecks k (register (feedback k) message) message =
+    p ∙ ap (λ (v : ℕ). withChecks n v (drop n old)) (d ∙ ap (λ (u : List ℕ). register u (drop n old)) t)
+    ∙ ap (λ (i : ℕ). withChecks i (register (feedback k) (drop i old)) (drop i old)) e in
+    let word : CodeWord (distance mode) message new =
+    subst (λ (w : List ℕ). CodeWord (distance mode) message w) (sym is) (register-codes (distance mode) message (omega arith) (omega arith) semi) in
     record {
       makeable = record { fits = record { mode-from = a; mode-to = b; checks = omega arith; most = l }; semi-octets = semi };
       made = word;
-      only = λ w q. code-word-only (distance mode) info w new (omega arith) (omega (arith, length-drop k old)) q word;
+      only = λ w q. code-word-only (distance mode) message w new (omega arith) (omega (arith, length-drop k old)) q word;
     }
 
 pub not-made : (mode n : ℕ) (old : List ℕ) → n ≡ distance mode - 1 → (SemiOctets (drop n old) → ⊥) → NotMade mode old old

@@ -15,8 +15,8 @@ pub mod Checks
 pub mod Packed
 pub mod Table
 pub mod Transform
-pub mod Rule
-pub mod Mend
+pub mod Locator
+pub mod Correcting
 pub mod Turns
 pub mod Single
 pub mod Levels

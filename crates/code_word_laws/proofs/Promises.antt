@@ -13,7 +13,7 @@ use Rattle.laws.specs.Decides.{Decides}
 use Rattle.laws.specs.Tab.{pick}
 use Rattle.code_word_laws.specs.Word.{SemiOctets, Fits}
 use Rattle.code_word_laws.specs.Make.{NotMade}
-use Rattle.code_word_laws.specs.Correct.{Mended, IsCorrected, IsNone, NotCorrected, lengthAt, Batch, EachMended, AllCorrected, NoneCorrected}
+use Rattle.code_word_laws.specs.Correct.{WordCorrected, IsCorrected, IsNone, NotCorrected, lengthAt, Batch, EachCorrected, AllCorrected, NoneCorrected}
 use Rattle.code_word_laws.specs.Corrector.{Dealt}
 
 -- what a test tells, where its answer was turned round
@@ -36,19 +36,19 @@ not-corrected-fitting mode old no-fit = record { unfit = λ q. no-fit (q .fits);
 pub not-corrected-elements : (mode : ℕ) (old : List ℕ) → (SemiOctets old → ⊥) → NotCorrected mode old old 0
 not-corrected-elements mode old not-semi = record { unfit = λ q. not-semi (q .semi-octets); kept = refl; zeroed = refl }
 
-module _ (mode : ℕ) (old new : List ℕ) (n : ℕ) (fits : Fits mode (length old)) (semi : SemiOctets old) (mended : Mended (mode - 1 + 1) old new n) where
+module _ (mode : ℕ) (old new : List ℕ) (n : ℕ) (fits : Fits mode (length old)) (semi : SemiOctets old) (takenOff : WordCorrected (mode - 1 + 1) old new n) where
   same : mode - 1 + 1 ≡ mode
   same = omega (arith, fits .mode-from)
 
-  mended-in : Mended mode old new n
-  mended-in = subst (λ (m : ℕ). Mended m old new n) same mended
+  taken-off-in : WordCorrected mode old new n
+  taken-off-in = subst (λ (m : ℕ). WordCorrected m old new n) same takenOff
 
   pub is-none : mode - 1 < n → IsNone mode old new 0
   is-none h =
       record {
         correctable = record { fits = fits; semi-octets = semi };
-        none = mended-in .none (omega (arith, same));
-        kept = mended-in .kept (omega (arith, same));
+        none = taken-off-in .none (omega (arith, same));
+        kept = taken-off-in .kept (omega (arith, same));
         zeroed = refl;
       }
 
@@ -56,9 +56,9 @@ module _ (mode : ℕ) (old new : List ℕ) (n : ℕ) (fits : Fits mode (length o
   is-corrected h =
       record {
         correctable = record { fits = fits; semi-octets = semi };
-        found = mended-in .found (omega (arith, same));
-        only = mended-in .only (omega (arith, same));
-        counted = mended-in .counted (omega (arith, same));
+        found = taken-off-in .found (omega (arith, same));
+        only = taken-off-in .only (omega (arith, same));
+        counted = taken-off-in .counted (omega (arith, same));
       }
 
 -- ---- correcting many words
@@ -109,14 +109,14 @@ module _ (mode : ℕ) (words counts : List ℕ) where
     dealt-out f g = record { some = some; quotient = refl; rest = refl; short = λ i h. fits-all f g i h .most }
 
     pub all-corrected : (words′ counts′ : List ℕ) → Fits mode long → (0 < over → Fits mode (long + 1)) → SemiOctets words
-        → length words′ ≡ length words → length counts′ ≡ length counts → EachMended (mode - 1 + 1) words words′ counts′
+        → length words′ ≡ length words → length counts′ ≡ length counts → EachCorrected (mode - 1 + 1) words words′ counts′
         → AllCorrected mode words counts words′ counts′
     all-corrected words′ counts′ f g semi as-long as-many each =
         record {
           batch = record { some = some; fits = fits-all f g; semi-octets = semi };
           as-many = as-many;
           as-long = as-long;
-          each = subst (λ (m : ℕ). EachMended m words words′ counts′) same-mode each;
+          each = subst (λ (m : ℕ). EachCorrected m words words′ counts′) same-mode each;
         }
       where
         same-mode : mode - 1 + 1 ≡ mode

@@ -19,7 +19,7 @@ use Rattle.gf16.proofs.Laws.{ring, sum-zero, zero-sum, one-product, product-one
 use Rattle.code_word_laws.specs.Polynomial.{value, scaled, rooted}
 use Rattle.code_word_laws.specs.Word.{SemiOctets}
 use Rattle.code_word_laws.specs.Make.{CodeWord}
-use Rattle.code_word_laws.specs.Register.{gathered, row, rowsFrom, feedback, fed, register, poured}
+use Rattle.code_word_laws.specs.Register.{gathered, row, rowsFrom, feedback, fed, register, withChecks}
 use Rattle.code_word_laws.specs.Packed.{nibble}
 use Rattle.code_word_laws.proofs.Packed.{nibble-xor, nibble-zero}
 use Rattle.code_word_laws.proofs.Distance.{value-lt}
@@ -199,7 +199,7 @@ fed-held n r c x h e z =
     (row-held (suc n) (r % 16) x (omega arith) z)
     ∙ feed-step x (held n (r / 16) x) (r % 16) c (power x n)
 
-pub register-empty : (n : ℕ) (info : List ℕ) → SemiOctets info → Empty n (register (feedback n) info)
+pub register-empty : (n : ℕ) (message : List ℕ) → SemiOctets message → Empty n (register (feedback n) message)
 unfolding register
 register-empty n [] s j h = nibble-zero j
 register-empty n (c ∷ cs) s j h = fed-empty n (register (feedback n) cs) c (s .0) (register-empty n cs (s .1)) j h
@@ -212,8 +212,8 @@ held-nothing zero x = refl
 held-nothing (suc n) x = ap₂ sum (zero-product (power x n)) (held-nothing n x) ∙ sum-zero 0
 
 -- what is left of x^n times the data
-pub register-held : (n : ℕ) (info : List ℕ) (x : ℕ) → SemiOctets info → value (rooted (suc n)) x ≡ 0
-    → held (suc n) (register (feedback (suc n)) info) x ≡ product (power x (suc n)) (value info x)
+pub register-held : (n : ℕ) (message : List ℕ) (x : ℕ) → SemiOctets message → value (rooted (suc n)) x ≡ 0
+    → held (suc n) (register (feedback (suc n)) message) x ≡ product (power x (suc n)) (value message x)
 unfolding register
 register-held n [] x s z = held-nothing (suc n) x ∙ sym (product-by-zero (power x (suc n)))
 register-held n (c ∷ cs) x s z =
@@ -223,61 +223,61 @@ register-held n (c ∷ cs) x s z =
 
 -- ---- the digits in front of the data
 
-pour-step : (v p a x w : ℕ) → sum v (product p (sum a (product x w))) ≡ sum (sum (product a p) v) (product (product x p) w)
-pour-step v p a x w = simp ring
+put-checks-step : (v p a x w : ℕ) → sum v (product p (sum a (product x w))) ≡ sum (sum (product a p) v) (product (product x p) w)
+put-checks-step v p a x w = simp ring
 
-pub poured-value : (n r : ℕ) (info : List ℕ) (x : ℕ) → SemiOctets info
-    → value (poured n r info) x ≡ sum (held n r x) (product (power x n) (value info x))
-unfolding poured power
-poured-value zero r info x s = sym (zero-sum (product 1 (value info x)) ∙ one-product (value info x) ∙ mod-eq-of-lt (value-lt info x s))
-poured-value (suc n) r info x s =
-    poured-value n (r / 16) (r % 16 ∷ info) x (omega arith, s) ∙ pour-step (held n (r / 16) x) (power x n) (r % 16) x (value info x)
+pub with-checks-value : (n r : ℕ) (message : List ℕ) (x : ℕ) → SemiOctets message
+    → value (withChecks n r message) x ≡ sum (held n r x) (product (power x n) (value message x))
+unfolding withChecks power
+with-checks-value zero r message x s = sym (zero-sum (product 1 (value message x)) ∙ one-product (value message x) ∙ mod-eq-of-lt (value-lt message x s))
+with-checks-value (suc n) r message x s =
+    with-checks-value n (r / 16) (r % 16 ∷ message) x (omega arith, s) ∙ put-checks-step (held n (r / 16) x) (power x n) (r % 16) x (value message x)
 
-pub poured-semi-octets : (n r : ℕ) (info : List ℕ) → SemiOctets info → SemiOctets (poured n r info)
-unfolding poured
-poured-semi-octets zero r info s = s
-poured-semi-octets (suc n) r info s = poured-semi-octets n (r / 16) (r % 16 ∷ info) (omega arith, s)
+pub with-checks-semi-octets : (n r : ℕ) (message : List ℕ) → SemiOctets message → SemiOctets (withChecks n r message)
+unfolding withChecks
+with-checks-semi-octets zero r message s = s
+with-checks-semi-octets (suc n) r message s = with-checks-semi-octets n (r / 16) (r % 16 ∷ message) (omega arith, s)
 
-pub poured-length : (n r : ℕ) (info : List ℕ) → length (poured n r info) ≡ n + length info
-unfolding poured
-poured-length zero r info = sym (zero-add (length info))
-poured-length (suc n) r info = poured-length n (r / 16) (r % 16 ∷ info) ∙ add-suc n (length info) ∙ sym (suc-add n (length info))
+pub with-checks-length : (n r : ℕ) (message : List ℕ) → length (withChecks n r message) ≡ n + length message
+unfolding withChecks
+with-checks-length zero r message = sym (zero-add (length message))
+with-checks-length (suc n) r message = with-checks-length n (r / 16) (r % 16 ∷ message) ∙ add-suc n (length message) ∙ sym (suc-add n (length message))
 
-pub poured-holds : (n r : ℕ) (info : List ℕ) → drop n (poured n r info) ≡ info
-unfolding poured
-poured-holds zero r info = refl
-poured-holds (suc n) r info =
-    ap (λ (k : ℕ). drop k (poured n (r / 16) (r % 16 ∷ info))) (sym (add-one n))
-    ∙ sym (drop-drop 1 n (poured n (r / 16) (r % 16 ∷ info)))
-    ∙ ap (λ (l : List ℕ). drop 1 l) (poured-holds n (r / 16) (r % 16 ∷ info))
+pub with-checks-holds : (n r : ℕ) (message : List ℕ) → drop n (withChecks n r message) ≡ message
+unfolding withChecks
+with-checks-holds zero r message = refl
+with-checks-holds (suc n) r message =
+    ap (λ (k : ℕ). drop k (withChecks n (r / 16) (r % 16 ∷ message))) (sym (add-one n))
+    ∙ sym (drop-drop 1 n (withChecks n (r / 16) (r % 16 ∷ message)))
+    ∙ ap (λ (l : List ℕ). drop 1 l) (with-checks-holds n (r / 16) (r % 16 ∷ message))
 
 -- at each root, r holds the value of x^n times the data
 abbrev pub Leaves : ℕ → List ℕ → ℕ → Type 0
-Leaves n info r = (j : ℕ) → 0 < j → j ≤ n → held n r (power 2 j) ≡ product (power (power 2 j) n) (value info (power 2 j))
+Leaves n message r = (j : ℕ) → 0 < j → j ≤ n → held n r (power 2 j) ≡ product (power (power 2 j) n) (value message (power 2 j))
 
-poured-root : (n r : ℕ) (info : List ℕ) → SemiOctets info → Leaves n info r → (j : ℕ) → 0 < j → j ≤ n → value (poured n r info) (power 2 j) ≡ 0
-poured-root n r info s l j p h =
+with-checks-root : (n r : ℕ) (message : List ℕ) → SemiOctets message → Leaves n message r → (j : ℕ) → 0 < j → j ≤ n → value (withChecks n r message) (power 2 j) ≡ 0
+with-checks-root n r message s l j p h =
     let x = power 2 j in
-    poured-value n r info x s
-    ∙ ap (λ (v : ℕ). sum v (product (power x n) (value info x))) (l j p h)
-    ∙ sum-self (product (power x n) (value info x))
+    with-checks-value n r message x s
+    ∙ ap (λ (v : ℕ). sum v (product (power x n) (value message x))) (l j p h)
+    ∙ sum-self (product (power x n) (value message x))
 
 -- the digits of such an r, in front of the data, are the code word
-pub leaves-codes : (d r : ℕ) (info : List ℕ) → 1 ≤ d → d ≤ 16 → SemiOctets info → Leaves (d - 1) info r → CodeWord d info (poured (d - 1) r info)
-leaves-codes d r info a b s l =
+pub leaves-codes : (d r : ℕ) (message : List ℕ) → 1 ≤ d → d ≤ 16 → SemiOctets message → Leaves (d - 1) message r → CodeWord d message (withChecks (d - 1) r message)
+leaves-codes d r message a b s l =
     let n = d - 1 in
-    let t = poured-semi-octets n r info s in
+    let t = with-checks-semi-octets n r message s in
     record {
       semi-octets = t;
-      long = poured-length n r info;
-      holds = poured-holds n r info;
-      valid = roots-valid d (poured n r info) a b t (λ j p h. poured-root n r info s l j p (omega arith));
+      long = with-checks-length n r message;
+      holds = with-checks-holds n r message;
+      valid = roots-valid d (withChecks n r message) a b t (λ j p h. with-checks-root n r message s l j p (omega arith));
     }
 
-pub register-leaves : (n : ℕ) (info : List ℕ) → SemiOctets info → Leaves n info (register (feedback n) info)
-register-leaves zero info s j p h = absurd (omega arith)
-register-leaves (suc n) info s j p h = register-held n info (power 2 j) s (rooted-root (suc n) j p h)
+pub register-leaves : (n : ℕ) (message : List ℕ) → SemiOctets message → Leaves n message (register (feedback n) message)
+register-leaves zero message s j p h = absurd (omega arith)
+register-leaves (suc n) message s j p h = register-held n message (power 2 j) s (rooted-root (suc n) j p h)
 
-pub register-codes : (d : ℕ) (info : List ℕ) → 1 ≤ d → d ≤ 16 → SemiOctets info
-    → CodeWord d info (poured (d - 1) (register (feedback (d - 1)) info) info)
-register-codes d info a b s = leaves-codes d (register (feedback (d - 1)) info) info a b s (register-leaves (d - 1) info s)
+pub register-codes : (d : ℕ) (message : List ℕ) → 1 ≤ d → d ≤ 16 → SemiOctets message
+    → CodeWord d message (withChecks (d - 1) (register (feedback (d - 1)) message) message)
+register-codes d message a b s = leaves-codes d (register (feedback (d - 1)) message) message a b s (register-leaves (d - 1) message s)

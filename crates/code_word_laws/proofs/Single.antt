@@ -1,4 +1,4 @@
--- One error taken off: a word's values change by those of the error alone, so what is left of its spectrum tells whether the word without
+-- One error taken off: a word's values change by those of the error alone, so what is left of its syndromes tells whether the word without
 -- it is valid.
 -- Assumes nothing.
 use mathlib.Core.Path.{_≡_, refl, sym, ap, ap₂, _∙_}
@@ -15,11 +15,11 @@ use Rattle.gf16.specs.Field.{sum, product, power}
 use Rattle.gf16.proofs.Laws.{ring, sum-lt, product-one, power-power}
 use Rattle.code_word_laws.specs.Polynomial.{value}
 use Rattle.code_word_laws.specs.Word.{SemiOctets, Roots, apart, unequal}
-use Rattle.code_word_laws.specs.Correct.{Mended}
-use Rattle.code_word_laws.specs.Corrector.{Row, Spectrum, Clear, Tried}
+use Rattle.code_word_laws.specs.Correct.{WordCorrected}
+use Rattle.code_word_laws.specs.Corrector.{Row, Syndromes, Clear, Tried}
 use Rattle.code_word_laws.proofs.Packed.{nibble-xor}
 use Rattle.code_word_laws.proofs.Turns.{changed}
-use Rattle.code_word_laws.proofs.Mend.{apart-self, near-by, found-is}
+use Rattle.code_word_laws.proofs.Correcting.{apart-self, near-by, found-is}
 
 -- v added at place k
 abbrev changed-at : List ℕ → ℕ → ℕ → List ℕ
@@ -50,11 +50,11 @@ apart-changed (c ∷ cs) zero v h l n = let e = changed c v l in let r = apart-s
 apart-changed (c ∷ cs) (suc k) v h l n =
     ap₂ (λ (a b : ℕ). a + b) (ap unequal (eq-eqb c c refl)) (apart-changed cs k v (omega arith) l n)
 
--- the word is corrected where the rest of its spectrum is clear
-pub mended-one : (t : ℕ) (old : List ℕ) (s k v r : ℕ) → 1 ≤ t → t ≤ 3 → length old ≤ 15 → SemiOctets old → Spectrum old s → k < length old → v < 16 → v ≢ 0
-    → Row k v r → Clear (t + t) (bitXor s r) → Mended (t + 1) old (set old k (bitXor (getD old k 0) v)) 1
+-- the word is corrected where the rest of its syndromes is clear
+pub taken-off-one : (t : ℕ) (old : List ℕ) (s k v r : ℕ) → 1 ≤ t → t ≤ 3 → length old ≤ 15 → SemiOctets old → Syndromes old s → k < length old → v < 16 → v ≢ 0
+    → Row k v r → Clear (t + t) (bitXor s r) → WordCorrected (t + 1) old (set old k (bitXor (getD old k 0) v)) 1
 unfolding sum
-mended-one t old s k v r from to short semi spectrum h l n row clear =
+taken-off-one t old s k v r from to short semi syndromes h l n row clear =
     found-is t old to short semi (changed-at old k v) 1 (sym one)
     (near-by t old to short semi (changed-at old k v) (semi-octets-changed old k v h l semi) (length-set old k (sum (getD old k 0) v)) roots (omega (arith, one)))
   where
@@ -64,12 +64,12 @@ mended-one t old s k v r from to short semi spectrum h l n row clear =
     roots : Roots (t + t + 1) (changed-at old k v)
     roots j p q =
         value-changed old k v (power 2 j) h l
-        ∙ ap₂ sum (sym (spectrum j (omega arith))) (ap (λ (x : ℕ). product v x) (power-power 2 j k) ∙ sym (row j (omega arith)))
+        ∙ ap₂ sum (sym (syndromes j (omega arith))) (ap (λ (x : ℕ). product v x) (power-power 2 j k) ∙ sym (row j (omega arith)))
         ∙ sym (nibble-xor j s r)
         ∙ clear j p (omega arith)
 
 pub tried-none : (mode : ℕ) (old : List ℕ) → Tried mode old old false
 tried-none mode old = record { one = λ e. absurd (false≢true e); kept = λ e. refl }
 
-pub tried-one : (mode : ℕ) (old new : List ℕ) → Mended mode old new 1 → Tried mode old new true
+pub tried-one : (mode : ℕ) (old new : List ℕ) → WordCorrected mode old new 1 → Tried mode old new true
 tried-one mode old new m = record { one = λ e. m; kept = λ e. absurd (false≢true (sym e)) }

@@ -1,4 +1,4 @@
--- What a turn of each loop keeps, over plain lists and numbers: the spectrum, the transform, the errors taken off; and what the window of
+-- What a turn of each loop keeps, over plain lists and numbers: the syndromes, the transform, the errors taken off; and what the window of
 -- digits tells.
 -- Assumes nothing.
 use mathlib.Core.Path.{_≡_, refl, sym, ap, ap₂, _∙_}
@@ -19,11 +19,11 @@ use Rattle.gf16.proofs.Laws.{sum-self, sum-zero, zero-sum, cancel, product-comm
 use Rattle.code_word_laws.specs.Polynomial.{value}
 use Rattle.code_word_laws.specs.Word.{SemiOctets, apart, unequal}
 use Rattle.code_word_laws.specs.Packed.{nibble}
-use Rattle.code_word_laws.specs.Corrector.{Row, Spectrum, Clear, Recurs, back, Transformed, mended, cross, triple}
+use Rattle.code_word_laws.specs.Corrector.{Row, Syndromes, Clear, Recurs, back, Transformed, takenOff, minorTwo, triple}
 use Rattle.code_word_laws.proofs.Division.{semi-octet-at, value-append}
 use Rattle.code_word_laws.proofs.Packed.{nibble-xor, nibble-zero}
 
--- ---- the spectrum
+-- ---- the syndromes
 
 -- one more semi-octet at the end
 value-snoc : (xs : List ℕ) (c x : ℕ) → c < 16 → value (xs ++ c ∷ []) x ≡ sum (value xs x) (product c (power x (length xs)))
@@ -32,23 +32,23 @@ value-snoc xs c x h =
     ∙ ap (λ (v : ℕ). sum (value xs x) (product (power x (length xs)) v)) (ap (λ (v : ℕ). sum c v) (product-by-zero x) ∙ sum-zero c)
     ∙ ap (λ (v : ℕ). sum (value xs x) v) (product-comm (power x (length xs)) c)
 
--- the spectrum of the first i semi-octets
+-- the syndromes of the first i semi-octets
 abbrev pub SpectrumTo : List ℕ → ℕ → ℕ → Type 0
 SpectrumTo w i s = (j : ℕ) → j < 15 → nibble j s ≡ value (take i w) (power 2 j)
 
-pub spectrum-first : (w : List ℕ) → SpectrumTo w 0 0
-spectrum-first w j h = nibble-zero j
+pub syndromes-first : (w : List ℕ) → SpectrumTo w 0 0
+syndromes-first w j h = nibble-zero j
 
-pub spectrum-next : (w : List ℕ) (i s r : ℕ) → i < length w → SemiOctets w → SpectrumTo w i s → Row i (getD w i 0) r → SpectrumTo w (i + 1) (bitXor s r)
-spectrum-next w i s r h semi e row j l =
+pub syndromes-next : (w : List ℕ) (i s r : ℕ) → i < length w → SemiOctets w → SpectrumTo w i s → Row i (getD w i 0) r → SpectrumTo w (i + 1) (bitXor s r)
+syndromes-next w i s r h semi e row j l =
     nibble-xor j s r
     ∙ ap₂ sum (e j l) (row j l ∙ ap (λ (x : ℕ). product (getD w i 0) x) (power-power 2 i j))
     ∙ ap (λ (n : ℕ). sum (value (take i w) (power 2 j)) (product (getD w i 0) (power (power 2 j) n))) (sym (length-take-le i w (omega arith)))
     ∙ sym (value-snoc (take i w) (getD w i 0) (power 2 j) (semi-octet-at w i semi))
     ∙ ap (λ (l : List ℕ). value l (power 2 j)) (sym (take-suc w i 0 h) ∙ ap (λ (n : ℕ). take n w) (sym (add-one i)))
 
-pub spectrum-last : (w : List ℕ) (i s : ℕ) → i ≡ length w → SpectrumTo w i s → Spectrum w s
-spectrum-last w i s e h j l = h j l ∙ ap (λ (l : List ℕ). value l (power 2 j)) (ap (λ (n : ℕ). take n w) e ∙ take-length w)
+pub syndromes-last : (w : List ℕ) (i s : ℕ) → i ≡ length w → SpectrumTo w i s → Syndromes w s
+syndromes-last w i s e h j l = h j l ∙ ap (λ (l : List ℕ). value l (power 2 j)) (ap (λ (n : ℕ). take n w) e ∙ take-length w)
 
 -- ---- the lowest digits
 
@@ -87,9 +87,9 @@ clears n s w e =
 
 -- ---- minors
 
-pub crossed-is : (a b c d : ℕ) {p q : ℕ} → p ≡ product a d → q ≡ product b c → (bitXor p q ≡ cross a b c d) × (bitXor p q < 16)
+pub minor-two-is : (a b c d : ℕ) {p q : ℕ} → p ≡ product a d → q ≡ product b c → (bitXor p q ≡ minorTwo a b c d) × (bitXor p q < 16)
 unfolding sum
-crossed-is a b c d e f =
+minor-two-is a b c d e f =
     let s = ap₂ bitXor e f in
     (s, rw s (xor-lt 4 (product a d) (product b c) (product-lt a d) (product-lt b c)))
 
@@ -151,12 +151,12 @@ changed w (suc d) h = ap unequal (ne-eqb w (sum w (suc d)) differs) ∙ omega ar
 pub record TakenTo (old : List ℕ) (e i rest count : ℕ) (now : List ℕ) : Type 0 where
   pub long : length now ≡ length old
   pub behind : drop i now ≡ drop i old
-  pub whole : take i now ++ mended (drop i old) rest ≡ mended old e
-  pub counted : count + apart (drop i old) (mended (drop i old) rest) ≡ apart old (mended old e)
+  pub whole : take i now ++ takenOff (drop i old) rest ≡ takenOff old e
+  pub counted : count + apart (drop i old) (takenOff (drop i old) rest) ≡ apart old (takenOff old e)
   pub few : count ≤ i
 
 pub taken-first : (old : List ℕ) (e : ℕ) → TakenTo old e 0 e 0 old
-taken-first old e = record { long = refl; behind = refl; whole = refl; counted = zero-add (apart old (mended old e)); few = omega arith }
+taken-first old e = record { long = refl; behind = refl; whole = refl; counted = zero-add (apart old (takenOff old e)); few = omega arith }
 
 taken-step : (old : List ℕ) (e i rest count : ℕ) (now : List ℕ) (d v : ℕ) → i < length old → d ≡ rest % 16 → v ≡ sum (getD now i 0) d
     → TakenTo old e i rest count now → TakenTo old e (suc i) (rest / 16) (count + (d + 15) / 16) (set now i v)
@@ -173,13 +173,13 @@ taken-step old e i rest count now d v h ed ev k =
       long = length-set now i v ∙ k .long;
       behind = drop-set-lt (suc i) now i v (omega arith) ∙ rear;
       whole =
-          ap (λ (l : List ℕ). l ++ mended (drop (suc i) old) (rest / 16)) (take-suc-set now i v inside)
-          ∙ append-snoc (take i now) v (mended (drop (suc i) old) (rest / 16))
-          ∙ ap (λ (x : ℕ). take i now ++ x ∷ mended (drop (suc i) old) (rest / 16)) put
-          ∙ ap (λ (l : List ℕ). take i now ++ mended l rest) (sym o)
+          ap (λ (l : List ℕ). l ++ takenOff (drop (suc i) old) (rest / 16)) (take-suc-set now i v inside)
+          ∙ append-snoc (take i now) v (takenOff (drop (suc i) old) (rest / 16))
+          ∙ ap (λ (x : ℕ). take i now ++ x ∷ takenOff (drop (suc i) old) (rest / 16)) put
+          ∙ ap (λ (l : List ℕ). take i now ++ takenOff l rest) (sym o)
           ∙ k .whole;
       counted =
-          let was : count + (unequal (eqb (getD old i 0) (sum (getD old i 0) (rest % 16))) + apart (drop (suc i) old) (mended (drop (suc i) old) (rest / 16))) ≡ apart old (mended old e)
+          let was : count + (unequal (eqb (getD old i 0) (sum (getD old i 0) (rest % 16))) + apart (drop (suc i) old) (takenOff (drop (suc i) old) (rest / 16))) ≡ apart old (takenOff old e)
           = rw o at (k .counted) in
           let one = changed (getD old i 0) (rest % 16) low in
           let same-digit : (d + 15) / 16 ≡ (rest % 16 + 15) / 16 = ap (λ (x : ℕ). (x + 15) / 16) ed in
@@ -194,10 +194,10 @@ taken-next old e i rest count now {d} h ed k =
     rw (add-one i) (taken-step old e i rest count now d (bitXor (getD now i 0) d) h ed refl k)
 
 pub taken-last : (old : List ℕ) (e i rest count : ℕ) (now : List ℕ) → length old ≤ i → TakenTo old e i rest count now
-    → (now ≡ mended old e) × (count ≡ apart old now)
+    → (now ≡ takenOff old e) × (count ≡ apart old now)
 taken-last old e i rest count now h k =
     let none : drop i old ≡ [] = drop-of-length-le old h in
-    let all : now ≡ mended old e =
-    sym (take-append-drop i now) ∙ ap (λ (l : List ℕ). take i now ++ l) (k .behind ∙ none ∙ sym (ap (λ (l : List ℕ). mended l rest) none)) ∙ k .whole in
-    let total : count + 0 ≡ apart old (mended old e) = rw none at (k .counted) in
+    let all : now ≡ takenOff old e =
+    sym (take-append-drop i now) ∙ ap (λ (l : List ℕ). take i now ++ l) (k .behind ∙ none ∙ sym (ap (λ (l : List ℕ). takenOff l rest) none)) ∙ k .whole in
+    let total : count + 0 ≡ apart old (takenOff old e) = rw none at (k .counted) in
     (all, sym (add-zero count) ∙ total ∙ ap (λ (l : List ℕ). apart old l) (sym all))

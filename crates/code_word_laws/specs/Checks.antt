@@ -20,7 +20,7 @@ alone (suc k) c = 0 ∷ alone k c
 
 -- the n check semi-octets of the code word over the data, packed
 unfoldable pub checkOf : ℕ → List ℕ → ℕ
-checkOf n info = gathered 0 (take n (coded (suc n) info))
+checkOf n message = gathered 0 (take n (coded (suc n) message))
 
 -- entry 16 k + c: the n check semi-octets over c alone at data place k, for the 13 places that a word can have
 unfoldable pub checkRows : ℕ → List ℕ

@@ -20,7 +20,7 @@ pub record Near (mode : ℕ) (old w : List ℕ) : Type 0 where
   pub near : apart old w < mode
 
 -- the word left and the count, or m for none: the only such word with the count of places in which the two differ, or the word as it was lent
-pub record Mended (mode : ℕ) (old new : List ℕ) (count : ℕ) : Type 0 where
+pub record WordCorrected (mode : ℕ) (old new : List ℕ) (count : ℕ) : Type 0 where
   pub found : count < mode → Near mode old new
   pub only : count < mode → (w : List ℕ) → Near mode old w → w ≡ new
   pub counted : count < mode → count ≡ apart old new
@@ -67,16 +67,16 @@ pub record Batch (mode : ℕ) (words counts : List ℕ) : Type 0 where
   pub semi-octets : SemiOctets words
 
 -- what is left of each word, and its count
-abbrev pub EachMended : ℕ → List ℕ → List ℕ → List ℕ → Type 0
-EachMended mode words words′ counts =
-    (i : ℕ) → i < length counts → Mended mode (wordAt (length counts) i words) (wordAt (length counts) i words′) (getD counts i 0)
+abbrev pub EachCorrected : ℕ → List ℕ → List ℕ → List ℕ → Type 0
+EachCorrected mode words words′ counts =
+    (i : ℕ) → i < length counts → WordCorrected mode (wordAt (length counts) i words) (wordAt (length counts) i words′) (getD counts i 0)
 
 -- each word is corrected, with its count, or left as it was lent, with m for its count
 pub record AllCorrected (mode : ℕ) (words counts words′ counts′ : List ℕ) : Type 0 where
   pub batch : Batch mode words counts
   pub as-many : length counts′ ≡ length counts
   pub as-long : length words′ ≡ length words
-  pub each : EachMended mode words words′ counts′
+  pub each : EachCorrected mode words words′ counts′
 
 pub record NoneCorrected (mode : ℕ) (words counts words′ counts′ : List ℕ) : Type 0 where
   pub unfit : Batch mode words counts → ⊥

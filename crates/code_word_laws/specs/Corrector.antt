@@ -1,5 +1,6 @@
 -- What the private steps of correcting a word promise each other; no public promise rests on these names. The steps go from the word's
--- values at 2^0 .. 2^14 (its spectrum) to a rule by which the sums of its errors go on, and back from the sums to the errors.
+-- values at 2^0 .. 2^14, among them its syndromes, to the error locator, by which the sums of its errors go on, and back from the sums to
+-- the errors.
 -- Assumes nothing.
 use mathlib.Core.Path.{_≡_}
 use mathlib.Core.Bool.{Bool, true, false}
@@ -9,7 +10,7 @@ use lib.ListN.{length, getD}
 use Rattle.gf16.specs.Field.{sum, product, power}
 use Rattle.code_word_laws.specs.Polynomial.{value}
 use Rattle.code_word_laws.specs.Word.{SemiOctets, Roots}
-use Rattle.code_word_laws.specs.Correct.{Mended, lengthAt}
+use Rattle.code_word_laws.specs.Correct.{WordCorrected, lengthAt}
 use Rattle.code_word_laws.specs.Packed.{nibble}
 
 -- number i of a table of halves, the low half first
@@ -26,8 +27,8 @@ abbrev pub Row : ℕ → ℕ → ℕ → Type 0
 Row a x r = (j : ℕ) → j < 15 → nibble j r ≡ product x (power (power 2 a) j)
 
 -- the digits of s are the word's values at 2^j
-abbrev pub Spectrum : List ℕ → ℕ → Type 0
-Spectrum w s = (j : ℕ) → j < 15 → nibble j s ≡ value w (power 2 j)
+abbrev pub Syndromes : List ℕ → ℕ → Type 0
+Syndromes w s = (j : ℕ) → j < 15 → nibble j s ≡ value w (power 2 j)
 
 -- the digits 1 .. n of s are 0
 abbrev pub Clear : ℕ → ℕ → Type 0
@@ -47,53 +48,53 @@ pub record Explains (t s : ℕ) (es : List ℕ) : Type 0 where
   pub sums : (j : ℕ) → 0 < j → j ≤ t + t → value es (power 2 j) ≡ nibble j s
 
 -- a 2 by 2 minor, and a 3 by 3 one along its last row
-abbrev pub cross : ℕ → ℕ → ℕ → ℕ → ℕ
-cross a b c d = sum (product a d) (product b c)
+abbrev pub minorTwo : ℕ → ℕ → ℕ → ℕ → ℕ
+minorTwo a b c d = sum (product a d) (product b c)
 
 abbrev pub triple : ℕ → ℕ → ℕ → ℕ → ℕ → ℕ → ℕ
 triple a x b y c z = sum (sum (product a x) (product b y)) (product c z)
 
 -- the leading minor of three rows of the sums
 abbrev pub minor : ℕ → ℕ → ℕ → ℕ → ℕ → ℕ
-minor s1 s2 s3 s4 s5 = triple (cross s2 s3 s3 s4) s3 (cross s1 s3 s2 s4) s4 (cross s1 s2 s2 s3) s5
+minor s1 s2 s3 s4 s5 = triple (minorTwo s2 s3 s3 s4) s3 (minorTwo s1 s3 s2 s4) s4 (minorTwo s1 s2 s2 s3) s5
 
--- it is 0 where three errors are looked for
-abbrev pub Flat : ℕ → ℕ → Type 0
-Flat t s = 3 ≤ t → minor (nibble 1 s) (nibble 2 s) (nibble 3 s) (nibble 4 s) (nibble 5 s) ≡ 0
+-- the leading minor of three rows is 0, where three errors are looked for
+abbrev pub ThirdMinorZero : ℕ → ℕ → Type 0
+ThirdMinorZero t s = 3 ≤ t → minor (nibble 1 s) (nibble 2 s) (nibble 3 s) (nibble 4 s) (nibble 5 s) ≡ 0
 
--- that of two rows is 0 where two errors are looked for
-abbrev pub Thin : ℕ → ℕ → Type 0
-Thin t s = 2 ≤ t → cross (nibble 1 s) (nibble 2 s) (nibble 2 s) (nibble 3 s) ≡ 0
+-- the leading minor of two rows is 0, where two errors are looked for
+abbrev pub SecondMinorZero : ℕ → ℕ → Type 0
+SecondMinorZero t s = 2 ≤ t → minorTwo (nibble 1 s) (nibble 2 s) (nibble 2 s) (nibble 3 s) ≡ 0
 
 -- each value from the three before it
 abbrev pub Recurs : ℕ → ℕ → ℕ → (ℕ → ℕ) → Type 0
 Recurs r1 r2 r3 s = (n : ℕ) → s (suc (suc (suc n))) ≡ sum (sum (product r2 (s (suc n))) (product r3 (s n))) (product r1 (s (suc (suc n))))
 
 -- the values of any such errors go on by r1, r2, r3, and the third is u
-abbrev pub Ruled : ℕ → ℕ → ℕ → ℕ → ℕ → ℕ → Type 0
-Ruled t s r1 r2 r3 u = (es : List ℕ) → Explains t s es → Recurs r1 r2 r3 (λ n. value es (power 2 n)) × (value es (power 2 3) ≡ u)
+abbrev pub Continues : ℕ → ℕ → ℕ → ℕ → ℕ → ℕ → Type 0
+Continues t s r1 r2 r3 u = (es : List ℕ) → Explains t s es → Recurs r1 r2 r3 (λ n. value es (power 2 n)) × (value es (power 2 3) ≡ u)
 
--- the same, of elements of the field
-pub record Rules (t s r1 r2 r3 u : ℕ) : Type 0 where
+-- the error locator: the same, of elements of the field
+pub record IsLocator (t s r1 r2 r3 u : ℕ) : Type 0 where
   pub first : r1 < 16
   pub second : r2 < 16
   pub third : r3 < 16
   pub start : u < 16
-  pub ruled : Ruled t s r1 r2 r3 u
+  pub locator : Continues t s r1 r2 r3 u
 
 -- the sum over n = 1 .. m of s n times 2^((15 - n) k)
 abbrev pub back : (ℕ → ℕ) → ℕ → ℕ → ℕ
 back s k zero = 0
 back s k (suc m) = sum (back s k m) (product (s (suc m)) (power (power 2 (15 - suc m)) k))
 
--- the digits of e are the transform back of any values that start with s1, s2, u and go on by the rule
+-- the digits of e are the transform back of any values that start with s1, s2, u and go on by the locator
 abbrev pub Transformed : ℕ → ℕ → ℕ → ℕ → ℕ → ℕ → ℕ → Type 0
 Transformed r1 r2 r3 s1 s2 u e =
     (s : ℕ → ℕ) → Recurs r1 r2 r3 s → s 1 ≡ s1 → s 2 ≡ s2 → s 3 ≡ u → (k : ℕ) → k < 15 → nibble k e ≡ back s k 15
 
 -- the digits of e are any such errors
-abbrev pub Guessed : ℕ → ℕ → ℕ → Type 0
-Guessed t s e = (es : List ℕ) → Explains t s es → (k : ℕ) → k < 15 → nibble k e ≡ getD es k 0
+abbrev pub ErrorWord : ℕ → ℕ → ℕ → Type 0
+ErrorWord t s e = (es : List ℕ) → Explains t s es → (k : ℕ) → k < 15 → nibble k e ≡ getD es k 0
 
 -- a word with n changes is valid and near enough
 pub record Acceptable (t n : ℕ) (w : List ℕ) : Type 0 where
@@ -108,11 +109,11 @@ pub record Dealt (many n long over : ℕ) : Type 0 where
   pub short : (i : ℕ) → i < n → lengthAt many n i ≤ 15
 
 -- a word with the errors in the digits of e taken off
-abbrev pub mended : List ℕ → ℕ → List ℕ
-mended [] e = []
-mended (c ∷ cs) e = sum c (e % 16) ∷ mended cs (e / 16)
+abbrev pub takenOff : List ℕ → ℕ → List ℕ
+takenOff [] e = []
+takenOff (c ∷ cs) e = sum c (e % 16) ∷ takenOff cs (e / 16)
 
 -- a word is corrected by one change, or it is as it was
 pub record Tried (mode : ℕ) (old new : List ℕ) (r : Bool) : Type 0 where
-  pub one : r ≡ true → Mended mode old new 1
+  pub one : r ≡ true → WordCorrected mode old new 1
   pub kept : r ≡ false → new ≡ old

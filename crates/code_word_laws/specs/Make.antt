@@ -17,13 +17,13 @@ remainder n g (c ∷ cs) = lessened n g (c ∷ remainder n g cs)
 
 -- the code word over the data (A.43 to A.45): the remainder of x^(d-1) times the data, in front of the data
 unfoldable pub coded : ℕ → List ℕ → List ℕ
-coded d info = remainder (d - 1) (generator d) (replicate (d - 1) 0 ++ info) ++ info
+coded d message = remainder (d - 1) (generator d) (replicate (d - 1) 0 ++ message) ++ message
 
 -- w is a code word over the data: valid, and the data stand behind its d - 1 check semi-octets
-pub record CodeWord (d : ℕ) (info w : List ℕ) : Type 0 where
+pub record CodeWord (d : ℕ) (message w : List ℕ) : Type 0 where
   pub semi-octets : SemiOctets w
-  pub long : length w ≡ d - 1 + length info
-  pub holds : drop (d - 1) w ≡ info
+  pub long : length w ≡ d - 1 + length message
+  pub holds : drop (d - 1) w ≡ message
   pub valid : Valid d w
 
 -- what may be asked: the settings fit, and the data are semi-octets; what stands where the check semi-octets go is not looked at

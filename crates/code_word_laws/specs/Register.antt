@@ -36,6 +36,6 @@ register rows [] = 0
 register rows (c ∷ cs) = fed rows (register rows cs) c
 
 -- the n coefficients that r holds, in front of the data
-unfoldable pub poured : ℕ → ℕ → List ℕ → List ℕ
-poured zero r info = info
-poured (suc n) r info = poured n (r / 16) (r % 16 ∷ info)
+unfoldable pub withChecks : ℕ → ℕ → List ℕ → List ℕ
+withChecks zero r message = message
+withChecks (suc n) r message = withChecks n (r / 16) (r % 16 ∷ message)

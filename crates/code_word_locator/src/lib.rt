@@ -1,6 +1,6 @@
-// What a word tells of its errors. Its values at 2^0 .. 2^14 are read from a lent table and added up, packed in one number (the spectrum);
-// the values at 2^1 .. 2^(2 t) are those of its errors alone (the syndromes). From these comes the rule by which the sums of at most t
-// errors go on.
+// What a word tells of its errors. Its values at 2^0 .. 2^14 are read from a lent table and added up, packed in one number; those at
+// 2^1 .. 2^(2 t) are those of its errors alone: its syndromes. From these comes the error locator, by which the sums of at most t errors
+// go on.
 // Inner: `code_word_corrector` and `code_word` stand over it. It asks for the table that `table` gives, for t from 1 to 3 and for
 // semi-octets.
 ghost use mathlib.Core.Path.{_≡_};
@@ -11,7 +11,7 @@ ghost use Rattle.laws.specs.Decides.{Decides};
 ghost use Rattle.gf16.specs.Field.{product, power, inverse};
 ghost use Rattle.code_word_laws.specs.Word.{SemiOctets};
 ghost use Rattle.code_word_laws.specs.Packed.{nibble};
-ghost use Rattle.code_word_laws.specs.Corrector.{Table, Row, Spectrum, Clear, Flat, Thin, Rules, cross, triple, minor};
+ghost use Rattle.code_word_laws.specs.Corrector.{Table, Row, Syndromes, Clear, ThirdMinorZero, SecondMinorZero, IsLocator, minorTwo, triple, minor};
 
 // Number 16 a + b: the digits from the lowest on are b times 2^(a j) for j = 0 .. 14, and the highest is a times b.
 // Its low half is entry 2 (16 a + b) and its high half the next: halves of 32 bits are built sixteen bytes at a time, numbers of 64 bits one by one.
@@ -567,10 +567,10 @@ pub fn row(t: &[u32; 512], a: usize, x: u8) -> u64
     long(t[2 * at]) + long(t[2 * at + 1]) * 4294967296
 }
 
-// The word's values at 2^0 .. 2^14, packed.
-pub fn spectrum(t: &[u32; 512], word: &[u8]) -> u64
+// The word's values at 2^0 .. 2^14, packed: its syndromes are those at 2^1 .. 2^(2 t).
+pub fn syndromes(t: &[u32; 512], word: &[u8]) -> u64
     requires { ⌜ Table (now t) × SemiOctets (now word) × (length (now word) ≤ 15) ⌝ }
-    ensures { λ r. ⌜ Spectrum (now (word .entry)) r ⌝ }
+    ensures { λ r. ⌜ Syndromes (now (word .entry)) r ⌝ }
 {
     let mut s: u64 = 0;
     let mut i = 0;
@@ -601,13 +601,15 @@ pub fn clear(s: u64, most: u8) -> bool
     s / 16 % window(most) == 0
 }
 
-fn crossed(t: &[u32; 512], a: u8, b: u8, c: u8, d: u8) -> u8
+// A minor of two rows of the sums.
+fn minor_two(t: &[u32; 512], a: u8, b: u8, c: u8, d: u8) -> u8
     requires { ⌜ Table (now t) × (a < 16) × (b < 16) × (c < 16) × (d < 16) ⌝ }
-    ensures { λ r. ⌜ (r ≡ cross a b c d) × (r < 16) ⌝ }
+    ensures { λ r. ⌜ (r ≡ minorTwo a b c d) × (r < 16) ⌝ }
 {
     times(t, a, d) ^ times(t, b, c)
 }
 
+// A sum of three products: a minor of three rows along its last, or a sum by the locator.
 pub fn tripled(t: &[u32; 512], a: u8, x: u8, b: u8, y: u8, c: u8, z: u8) -> u8
     requires { ⌜ Table (now t) × (a < 16) × (x < 16) × (b < 16) × (y < 16) × (c < 16) × (z < 16) ⌝ }
     ensures { λ r. ⌜ (r ≡ triple a x b y c z) × (r < 16) ⌝ }
@@ -618,6 +620,7 @@ pub fn tripled(t: &[u32; 512], a: u8, x: u8, b: u8, y: u8, c: u8, z: u8) -> u8
 // The inverses of the field's elements; of 0 it is 0.
 const INVERSES: [u8; 16] = [0, 1, 9, 14, 13, 11, 7, 6, 15, 2, 12, 5, 10, 4, 3, 8];
 
+// The inverse of a field element.
 pub fn inverted(a: u8) -> u8
     requires { ⌜ a < 16 ⌝ }
     ensures { λ r. ⌜ (r ≡ inverse a) × (r < 16) ⌝ }
@@ -629,6 +632,7 @@ pub fn inverted(a: u8) -> u8
 // The logarithms of the field's elements to the base 2; of 0 it is 0.
 const LOGARITHMS: [u8; 16] = [0, 0, 1, 4, 2, 8, 5, 10, 3, 14, 9, 7, 6, 13, 11, 12];
 
+// The logarithm of a field element.
 pub fn logarithm(a: u8) -> usize
     requires { ⌜ a < 16 ⌝ }
     ensures { λ r. ⌜ (r < 15) × (a ≢ 0 → power 2 r ≡ a) ⌝ }
@@ -637,14 +641,14 @@ pub fn logarithm(a: u8) -> usize
     wide(LOGARITHMS[at])
 }
 
-// The rule by which the sums of the errors go on: a sum is the first times the one before it, the second times the one before that, the third times
-// the one before that. The last is the third sum.
-pub struct Rule(pub u8, pub u8, pub u8, pub u8);
+// The error locator, as the recurrence of the sums of the errors: a sum is the first times the one before it, the second times the one
+// before that, the third times the one before that. The last is the third sum.
+pub struct Locator(pub u8, pub u8, pub u8, pub u8);
 
-// The rule where the leading minor d of three rows is not 0.
-fn rule_three(t: &[u32; 512], s: u64, d: u8) -> Rule
+// The locator where the leading minor d of three rows is not 0.
+fn locator_three(t: &[u32; 512], s: u64, d: u8) -> Locator
     requires { ⌜ Table (now t) × (d < 16) × (d ≢ 0) × (d ≡ minor (nibble 1 s) (nibble 2 s) (nibble 3 s) (nibble 4 s) (nibble 5 s)) ⌝ }
-    ensures { λ r. ⌜ Rules 3 s (r .0) (r .1) (r .2) (r .3) ⌝ }
+    ensures { λ r. ⌜ IsLocator 3 s (r .0) (r .1) (r .2) (r .3) ⌝ }
 {
     let s1 = (s / 16 % 16) as u8;
     let s2 = (s / 16 / 16 % 16) as u8;
@@ -652,17 +656,17 @@ fn rule_three(t: &[u32; 512], s: u64, d: u8) -> Rule
     let s4 = (s / 16 / 16 / 16 / 16 % 16) as u8;
     let s5 = (s / 16 / 16 / 16 / 16 / 16 % 16) as u8;
     let s6 = (s / 16 / 16 / 16 / 16 / 16 / 16 % 16) as u8;
-    let m01 = crossed(t, s1, s2, s2, s3);
-    let m02 = crossed(t, s1, s3, s2, s4);
-    let m03 = crossed(t, s1, s4, s2, s5);
-    let m12 = crossed(t, s2, s3, s3, s4);
-    let m13 = crossed(t, s2, s4, s3, s5);
-    let m23 = crossed(t, s3, s4, s4, s5);
+    let m01 = minor_two(t, s1, s2, s2, s3);
+    let m02 = minor_two(t, s1, s3, s2, s4);
+    let m03 = minor_two(t, s1, s4, s2, s5);
+    let m12 = minor_two(t, s2, s3, s3, s4);
+    let m13 = minor_two(t, s2, s4, s3, s5);
+    let m23 = minor_two(t, s3, s4, s4, s5);
     let first = tripled(t, m13, s3, m03, s4, m01, s6);
     let second = tripled(t, m23, s3, m03, s5, m02, s6);
     let third = tripled(t, m23, s4, m13, s5, m12, s6);
     let i = inverted(d);
-    Rule(
+    Locator(
         times(t, i, first),
         times(t, i, second),
         times(t, i, third),
@@ -670,73 +674,73 @@ fn rule_three(t: &[u32; 512], s: u64, d: u8) -> Rule
     )
 }
 
-// The rule where the leading minor c of two rows is not 0, and that of three is.
-fn rule_two(t: &[u32; 512], s: u64, most: u8, c: u8) -> Rule
-    requires { ⌜ Table (now t) × (2 ≤ most) × (most ≤ 3) × (c < 16) × (c ≢ 0) × (c ≡ cross (nibble 1 s) (nibble 2 s) (nibble 2 s) (nibble 3 s)) × Flat most s ⌝ }
-    ensures { λ r. ⌜ Rules most s (r .0) (r .1) (r .2) (r .3) ⌝ }
+// The locator where the leading minor c of two rows is not 0, and that of three is.
+fn locator_two(t: &[u32; 512], s: u64, most: u8, c: u8) -> Locator
+    requires { ⌜ Table (now t) × (2 ≤ most) × (most ≤ 3) × (c < 16) × (c ≢ 0) × (c ≡ minorTwo (nibble 1 s) (nibble 2 s) (nibble 2 s) (nibble 3 s)) × ThirdMinorZero most s ⌝ }
+    ensures { λ r. ⌜ IsLocator most s (r .0) (r .1) (r .2) (r .3) ⌝ }
 {
     let s1 = (s / 16 % 16) as u8;
     let s2 = (s / 16 / 16 % 16) as u8;
     let s3 = (s / 16 / 16 / 16 % 16) as u8;
     let s4 = (s / 16 / 16 / 16 / 16 % 16) as u8;
-    let first = crossed(t, s1, s3, s2, s4);
-    let second = crossed(t, s2, s3, s3, s4);
+    let first = minor_two(t, s1, s3, s2, s4);
+    let second = minor_two(t, s2, s3, s3, s4);
     let i = inverted(c);
-    Rule(times(t, i, first), times(t, i, second), 0, s3)
+    Locator(times(t, i, first), times(t, i, second), 0, s3)
 }
 
-// The rule of one error at most, where both leading minors are 0.
-fn rule_one(t: &[u32; 512], s: u64, most: u8) -> Rule
-    requires { ⌜ Table (now t) × (1 ≤ most) × (most ≤ 3) × Flat most s × Thin most s ⌝ }
-    ensures { λ r. ⌜ Rules most s (r .0) (r .1) (r .2) (r .3) ⌝ }
+// The locator of one error at most, where both leading minors are 0.
+fn locator_one(t: &[u32; 512], s: u64, most: u8) -> Locator
+    requires { ⌜ Table (now t) × (1 ≤ most) × (most ≤ 3) × ThirdMinorZero most s × SecondMinorZero most s ⌝ }
+    ensures { λ r. ⌜ IsLocator most s (r .0) (r .1) (r .2) (r .3) ⌝ }
 {
     let s1 = (s / 16 % 16) as u8;
     let s2 = (s / 16 / 16 % 16) as u8;
     let s3 = (s / 16 / 16 / 16 % 16) as u8;
     let first = times(t, inverted(s1), s2);
     if most == 1 {
-        return Rule(first, 0, 0, times(t, first, s2));
+        return Locator(first, 0, 0, times(t, first, s2));
     }
-    Rule(first, 0, 0, s3)
+    Locator(first, 0, 0, s3)
 }
 
-// The rule of two errors at most.
-fn rule_low(t: &[u32; 512], s: u64, most: u8) -> Rule
-    requires { ⌜ Table (now t) × (1 ≤ most) × (most ≤ 3) × Flat most s ⌝ }
-    ensures { λ r. ⌜ Rules most s (r .0) (r .1) (r .2) (r .3) ⌝ }
+// The locator of two errors at most.
+fn locator_low(t: &[u32; 512], s: u64, most: u8) -> Locator
+    requires { ⌜ Table (now t) × (1 ≤ most) × (most ≤ 3) × ThirdMinorZero most s ⌝ }
+    ensures { λ r. ⌜ IsLocator most s (r .0) (r .1) (r .2) (r .3) ⌝ }
 {
     if most == 1 {
-        return rule_one(t, s, most);
+        return locator_one(t, s, most);
     }
     let s1 = (s / 16 % 16) as u8;
     let s2 = (s / 16 / 16 % 16) as u8;
     let s3 = (s / 16 / 16 / 16 % 16) as u8;
-    let c = crossed(t, s1, s2, s2, s3);
+    let c = minor_two(t, s1, s2, s2, s3);
     if c != 0 {
-        return rule_two(t, s, most, c);
+        return locator_two(t, s, most, c);
     }
-    rule_one(t, s, most)
+    locator_one(t, s, most)
 }
 
-// The rule of at most t errors with these syndromes.
-pub fn ruled(t: &[u32; 512], s: u64, most: u8) -> Rule
+// The locator of at most t errors with these syndromes.
+pub fn find_locator(t: &[u32; 512], s: u64, most: u8) -> Locator
     requires { ⌜ Table (now t) × (1 ≤ most) × (most ≤ 3) ⌝ }
-    ensures { λ r. ⌜ Rules most s (r .0) (r .1) (r .2) (r .3) ⌝ }
+    ensures { λ r. ⌜ IsLocator most s (r .0) (r .1) (r .2) (r .3) ⌝ }
 {
     if most < 3 {
-        return rule_low(t, s, most);
+        return locator_low(t, s, most);
     }
     let s1 = (s / 16 % 16) as u8;
     let s2 = (s / 16 / 16 % 16) as u8;
     let s3 = (s / 16 / 16 / 16 % 16) as u8;
     let s4 = (s / 16 / 16 / 16 / 16 % 16) as u8;
     let s5 = (s / 16 / 16 / 16 / 16 / 16 % 16) as u8;
-    let m01 = crossed(t, s1, s2, s2, s3);
-    let m02 = crossed(t, s1, s3, s2, s4);
-    let m12 = crossed(t, s2, s3, s3, s4);
+    let m01 = minor_two(t, s1, s2, s2, s3);
+    let m02 = minor_two(t, s1, s3, s2, s4);
+    let m12 = minor_two(t, s2, s3, s3, s4);
     let d = tripled(t, m12, s3, m02, s4, m01, s5);
     if d != 0 {
-        return rule_three(t, s, d);
+        return locator_three(t, s, d);
     }
-    rule_low(t, s, most)
+    locator_low(t, s, most)
 }

@@ -10,7 +10,7 @@ use lib.ListN.{getD, take}
 use lib.Seq.{length-take-le}
 use Rattle.laws.proofs.Tab.{below-take}
 use Rattle.slot_laws.specs.Sizes.{words, hash1, hash2, frameSize}
-use Rattle.slot_laws.specs.Order.{mixed, Data}
+use Rattle.slot_laws.specs.Order.{requestSwapped, Data}
 use Rattle.slot_laws.specs.Slot.{slotWith}
 use Rattle.slot_protection.specs.Protect.{Settings, Lengths, Protects}
 use Rattle.slot.specs.Unprotect.{Taken, Unprotects}
@@ -19,7 +19,7 @@ use Rattle.slot_laws.specs.Back.{rolled, requestIn, restIn, Matches, requestOf,
 use Rattle.slot_repair.specs.Inner.{MendedTo}
 use Rattle.slot_delivery.specs.Inner.{IsDelivered}
 use Rattle.slot_laws.proofs.Slot.{gathered-slot, requestFrom, frameFrom, HashesMatch}
-use Rattle.slot_laws.proofs.Order.{data-mixed}
+use Rattle.slot_laws.proofs.Order.{data-request-swapped}
 use Rattle.slot.proofs.Rule.{accepts, refuses}
 use Rattle.slot.proofs.Demand.{demand-three}
 use Rattle.slot_interleaving.proofs.PlaceSteps.{zeros-at}
@@ -33,37 +33,37 @@ data-blank size mode e h l = record {
   below = below-take 16 e blanks (omega arith) (λ i. let z = zeros-at 800 i in omega arith);
 }
 
--- the words mended, the swap undone, the heading compared, the frame written or not
-module _ (size mode : ℕ) (slot old new info order : List ℕ) (count : ℕ) (taken : Taken size mode slot old)
-    (mended : MendedTo size mode slot info (words size) count) (unmixed : order ≡ mixed size mode info) where
-  hashes : HashesMatch size mode (slotWith size mode info) ≡ Matches size mode order
+-- the words corrected, the swap undone, the heading compared, the frame written or not
+module _ (size mode : ℕ) (slot old new message order : List ℕ) (count : ℕ) (taken : Taken size mode slot old)
+    (corrected : MendedTo size mode slot message (words size) count) (unmixed : order ≡ requestSwapped size mode message) where
+  hashes : HashesMatch size mode (slotWith size mode message) ≡ Matches size mode order
   unfolding HashesMatch
   hashes =
-      ap (λ (s : List ℕ). Matches size mode (mixed size mode s)) (gathered-slot size mode info (taken .range) (mended .given))
+      ap (λ (s : List ℕ). Matches size mode (requestSwapped size mode s)) (gathered-slot size mode message (taken .range) (corrected .given))
       ∙ ap (Matches size mode) (sym unmixed)
 
-  request-as : (q : ℕ) → q ≡ requestIn size order → q ≡ requestFrom size mode (slotWith size mode info)
+  request-as : (q : ℕ) → q ≡ requestIn size order → q ≡ requestFrom size mode (slotWith size mode message)
   unfolding requestFrom requestOf
   request-as q f =
       f ∙ ap (requestIn size) unmixed
-      ∙ ap (λ (s : List ℕ). requestIn size (mixed size mode s)) (sym (gathered-slot size mode info (taken .range) (mended .given)))
+      ∙ ap (λ (s : List ℕ). requestIn size (requestSwapped size mode s)) (sym (gathered-slot size mode message (taken .range) (corrected .given)))
 
-  frame-as : new ≡ rolled (frameSize size mode) (restIn size mode order) → new ≡ frameFrom size mode (slotWith size mode info)
+  frame-as : new ≡ rolled (frameSize size mode) (restIn size mode order) → new ≡ frameFrom size mode (slotWith size mode message)
   unfolding frameFrom frameOf
   frame-as g =
       g ∙ ap (λ (s : List ℕ). rolled (frameSize size mode) (restIn size mode s)) unmixed
-      ∙ ap (λ (s : List ℕ). rolled (frameSize size mode) (restIn size mode (mixed size mode s)))
-      (sym (gathered-slot size mode info (taken .range) (mended .given)))
+      ∙ ap (λ (s : List ℕ). rolled (frameSize size mode) (restIn size mode (requestSwapped size mode s)))
+      (sym (gathered-slot size mode message (taken .range) (corrected .given)))
 
   pub foreign-answer : IsDelivered size mode order old new false → Unprotects size mode slot old new 4 0 0
   foreign-answer d =
       rw (d .1)
-      (refuses size mode slot old (slotWith size mode info) taken (corrected-slot size mode slot info count (taken .range) mended) (rw hashes (d .0)))
+      (refuses size mode slot old (slotWith size mode message) taken (corrected-slot size mode slot message count (taken .range) corrected) (rw hashes (d .0)))
 
   pub accepted-answer : (q : ℕ) → q ≡ requestIn size order → IsDelivered size mode order old new true → Unprotects size mode slot old new 0 q count
   accepted-answer q f d =
-      rw (frame-as (d .1), request-as q f, count-changes size mode slot info count (taken .range) mended)
-      (accepts size mode slot old (slotWith size mode info) taken (corrected-slot size mode slot info count (taken .range) mended) (rw hashes (d .0)))
+      rw (frame-as (d .1), request-as q f, count-changes size mode slot message count (taken .range) corrected)
+      (accepts size mode slot old (slotWith size mode message) taken (corrected-slot size mode slot message count (taken .range) corrected) (rw hashes (d .0)))
 
 -- demand 3 follows from the two contracts
 pub carried : (size mode q : ℕ) (frame lent sent slot old new : List ℕ) (p number r n : ℕ) → Protects size mode q frame lent sent p
@@ -79,5 +79,5 @@ pub request-is : (size f : ℕ) (order : List ℕ) → f ≡ hash1 size → getD
 unfolding requestIn
 request-is size f order e = ap (λ (x : ℕ). getD order (2 * x - 1) 0 / 4) e
 
-pub data-unmixed : (size mode : ℕ) (info order : List ℕ) → Data size mode info → order ≡ mixed size mode info → Data size mode order
-data-unmixed size mode info order d e = rw e (data-mixed size mode info d)
+pub data-unmixed : (size mode : ℕ) (message order : List ℕ) → Data size mode message → order ≡ requestSwapped size mode message → Data size mode order
+data-unmixed size mode message order d e = rw e (data-request-swapped size mode message d)

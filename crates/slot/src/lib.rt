@@ -65,22 +65,22 @@ fn unprotect_sized(size: usize, mode: usize, slot: &[u8], frame: &mut [u8]) -> R
     let e = 2 * slot_sizes::first_hash_size(size)
         + 2 * slot_sizes::second_hash_size(size, mode)
         + 2 * n;
-    let mut info = [0u8; 800];
-    judge(size, mode, slot, &mut info[..e], frame)
+    let mut message = [0u8; 800];
+    judge(size, mode, slot, &mut message[..e], frame)
 }
 
-// Every word corrected, then the heading compared and the frame written; info is room for the data.
-fn judge(size: usize, mode: usize, slot: &[u8], info: &mut [u8], frame: &mut [u8]) -> Reception
-    requires { ⌜ (InRange size mode) × (length (now slot) ≡ size) × (Data size mode (now info)) × (length (now frame) ≡ frameSize size mode) ⌝ }
+// Every word corrected, then the heading compared and the frame written; message is room for the data semi-octets.
+fn judge(size: usize, mode: usize, slot: &[u8], message: &mut [u8], frame: &mut [u8]) -> Reception
+    requires { ⌜ (InRange size mode) × (length (now slot) ≡ size) × (Data size mode (now message)) × (length (now frame) ≡ frameSize size mode) ⌝ }
     ensures { λ r. ⌜ unprotecting.Unprotects size mode (now (slot .entry)) (now (frame .entry)) (now (frame .exit)) (unprotecting.numberOf r) (unprotecting.requestOf r) (unprotecting.countOf r) ⌝ }
 {
-    let Outcome::Repaired(count) = slot_repair::mend_all(size, mode, slot, info) else {
+    let Outcome::Repaired(count) = slot_repair::correct_slot(size, mode, slot, message) else {
         return Reception::Beyond;
     };
-    slot_ordering::mix(size, mode, info);
+    slot_ordering::swap_request(size, mode, message);
     let at = 2 * slot_sizes::first_hash_size(size) - 1;
-    let request = info[at] / 4;
-    if !slot_delivery::deliver(size, mode, request as u32, info, frame) {
+    let request = message[at] / 4;
+    if !slot_delivery::deliver(size, mode, request as u32, message, frame) {
         return Reception::Foreign;
     }
     Reception::Accepted(request, count)

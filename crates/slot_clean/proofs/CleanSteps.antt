@@ -18,7 +18,7 @@ use Rattle.gf16.specs.Field.{sum}
 use Rattle.gf16.proofs.Laws.{sum-same}
 use Rattle.code_word_laws.specs.Word.{distance}
 use Rattle.code_word_laws.specs.Make.{coded}
-use Rattle.code_word_laws.specs.Register.{poured}
+use Rattle.code_word_laws.specs.Register.{withChecks}
 use Rattle.code_word_laws.specs.Checks.{checkRows, summed}
 use Rattle.slot_laws.specs.Sizes.{InRange, words, wordLength, dataLength}
 use Rattle.slot_laws.specs.Words.{dataWord, signature, placeOf}
@@ -88,54 +88,54 @@ no-bits a b e =
     (omega arith, omega arith)
 
 -- a digit that is the last check semi-octet still to be compared
-poured-step : (k r : ℕ) (w : List ℕ) → 0 < k → k ≤ length w → getD w (k - 1) 0 ≡ r % 16 → poured k r (drop k w) ≡ poured (k - 1) (r / 16) (drop (k - 1) w)
-unfolding poured
-poured-step zero r w p h e = absurd (omega arith)
-poured-step (suc k) r w p h e =
+with-checks-step : (k r : ℕ) (w : List ℕ) → 0 < k → k ≤ length w → getD w (k - 1) 0 ≡ r % 16 → withChecks k r (drop k w) ≡ withChecks (k - 1) (r / 16) (drop (k - 1) w)
+unfolding withChecks
+with-checks-step zero r w p h e = absurd (omega arith)
+with-checks-step (suc k) r w p h e =
     let same : suc k - 1 ≡ k = omega arith in
     let d : getD w k 0 ≡ r % 16 = rw same at e in
-    rw same (ap (λ (l : List ℕ). poured k (r / 16) l) (ap (λ (x : ℕ). x ∷ drop (suc k) w) (sym d) ∙ sym (drop-cons w k 0 (omega arith))))
+    rw same (ap (λ (l : List ℕ). withChecks k (r / 16) l) (ap (λ (x : ℕ). x ∷ drop (suc k) w) (sym d) ∙ sym (drop-cons w k 0 (omega arith))))
 
 -- as far as place k the check semi-octets are the digits, where no bit was found
 abbrev pub Compared : ℕ → ℕ → List ℕ → ℕ → ℕ → ℕ → Type 0
-Compared n r w k rest bits = bits ≡ 0 → poured n r [] ≡ poured k rest (drop k w)
+Compared n r w k rest bits = bits ≡ 0 → withChecks n r [] ≡ withChecks k rest (drop k w)
 
 pub compared-first : (n r : ℕ) (w : List ℕ) → length w ≡ n → Compared n r w n r 0
-compared-first n r w l e = ap (λ (x : List ℕ). poured n r x) (sym (drop-of-length-le w {i = n} (omega arith)))
+compared-first n r w l e = ap (λ (x : List ℕ). withChecks n r x) (sym (drop-of-length-le w {i = n} (omega arith)))
 
 pub compared-next : (n r : ℕ) (w : List ℕ) (k rest bits x : ℕ) → length w ≡ n → k ≤ n → 0 < k → x ≡ getD w (k - 1) 0 → Compared n r w k rest bits
     → Compared n r w (k - 1) (rest / 16) (bitOr bits (bitXor x (rest % 16)))
 unfolding sum
 compared-next n r w k rest bits x l h p e c z =
     let b = no-bits bits (bitXor x (rest % 16)) z in
-    c (b .0) ∙ poured-step k rest w p (omega arith) (sym e ∙ sum-same x (rest % 16) (b .1))
+    c (b .0) ∙ with-checks-step k rest w p (omega arith) (sym e ∙ sum-same x (rest % 16) (b .1))
 
-pub compared-last : (n r : ℕ) (w : List ℕ) (k rest bits : ℕ) → k ≡ 0 → Compared n r w k rest bits → eqb bits 0 ≡ true → w ≡ poured n r []
-unfolding poured
-compared-last n r w k rest bits e c z = sym (c (eqb-true bits 0 z) ∙ ap (λ (m : ℕ). poured m rest (drop m w)) e)
+pub compared-last : (n r : ℕ) (w : List ℕ) (k rest bits : ℕ) → k ≡ 0 → Compared n r w k rest bits → eqb bits 0 ≡ true → w ≡ withChecks n r []
+unfolding withChecks
+compared-last n r w k rest bits e c z = sym (c (eqb-true bits 0 z) ∙ ap (λ (m : ℕ). withChecks m rest (drop m w)) e)
 
 -- ---- a clean word
 
 pub clean-coded : (size mode i r : ℕ) (places rows w : List ℕ) → InRange size mode → i < words size → Below 16 places → rows ≡ checkRows (distance mode - 1)
     → w ≡ dataFrom size mode places i → r ≡ summed rows (λ k. getD (dataFrom size mode places i) k 0) (dataLength size mode i)
-    → checksFrom size mode places i ≡ poured (2 * (mode - 1)) r [] → wordFrom size mode places i ≡ coded (distance mode) w
+    → checksFrom size mode places i ≡ withChecks (2 * (mode - 1)) r [] → wordFrom size mode places i ≡ coded (distance mode) w
 clean-coded size mode i r places rows w range l b t e s c =
     let word = wordFrom size mode places i in
-    let info = dataFrom size mode places i in
+    let message = dataFrom size mode places i in
     let long = length-data size mode i places range l in
     let f = checks-fit size mode i range l in
     let h = length-high size i (range .size-from) in
     let small = below-drop 16 (2 * (mode - 1)) word (words-from size mode places b .below i l) in
-    let sums : r ≡ summed rows (λ k. getD info k 0) (length info) = s ∙ ap (summed rows (λ k. getD info k 0)) (sym long) in
+    let sums : r ≡ summed rows (λ k. getD message k 0) (length message) = s ∙ ap (summed rows (λ k. getD message k 0)) (sym long) in
     sym (take-append-drop (2 * (mode - 1)) word)
-    ∙ ap (λ (x : List ℕ). x ++ info) c
-    ∙ sym (summed-word mode info (range .mode-from) (range .mode-to) (omega (arith, long)) small rows r t sums)
+    ∙ ap (λ (x : List ℕ). x ++ message) c
+    ∙ sym (summed-word mode message (range .mode-from) (range .mode-to) (omega (arith, long)) small rows r t sums)
     ∙ ap (coded (distance mode)) (sym e)
 
 -- ---- the loop over the words
 
-pub clean-first : (size mode : ℕ) (places info : List ℕ) → AllClean size mode places info 0
-clean-first size mode places info j l = absurd (omega arith)
+pub clean-first : (size mode : ℕ) (places message : List ℕ) → AllClean size mode places message 0
+clean-first size mode places message j l = absurd (omega arith)
 
 module _ (size mode i at n e : ℕ) (places old : List ℕ) (range : InRange size mode) (inside : i < words size) (start : at ≡ total (dataLength size mode) i)
     (given : Data size mode old) (is : n ≡ wordLength size i) (end : e ≡ at + (n - 2 * (mode - 1))) (small : Below 16 places)

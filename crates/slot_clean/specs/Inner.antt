@@ -28,4 +28,4 @@ dataFrom size mode places i = drop (2 * (mode - 1)) (wordFrom size mode places i
 
 -- the first n words as received are the code words over the data
 abbrev pub AllClean : ℕ → ℕ → List ℕ → List ℕ → ℕ → Type 0
-AllClean size mode places info n = (j : ℕ) → j < n → codeWord size mode info j ≡ wordFrom size mode places j
+AllClean size mode places message n = (j : ℕ) → j < n → codeWord size mode message j ≡ wordFrom size mode places j

@@ -9,7 +9,7 @@ ghost use lib.ListN.{length, getD};
 ghost use Rattle.laws.specs.Tab.{Below};
 ghost use Rattle.code_word_laws.specs.Word.{distance};
 ghost use Rattle.code_word_laws.specs.Make.{coded};
-ghost use Rattle.code_word_laws.specs.Register.{poured};
+ghost use Rattle.code_word_laws.specs.Register.{withChecks};
 ghost use Rattle.code_word_laws.specs.Checks.{checkRows, summed};
 ghost use Rattle.slot_laws.specs.Sizes.{InRange, words, dataLength};
 ghost use Rattle.slot_laws.specs.Words.{signature};
@@ -60,7 +60,7 @@ fn receive_data(
 // No promise where not: the slot is then corrected word by word.
 fn same_checks(size: usize, i: usize, mode: usize, places: &[u8], row: &[u8], r: u32) -> bool
     requires { ⌜ (InRange size mode) × (i < words size) × (length (now places) ≡ 2 * size) × (length (now row) ≡ 15) × ((k : ℕ) → getD (now row) k 0 ≡ signature mode i k) ⌝ }
-    ensures { λ b. ⌜ (b ≡ true → checksFrom size mode (now (places .entry)) i ≡ poured (2 * (mode - 1)) r []) ⌝ }
+    ensures { λ b. ⌜ (b ≡ true → checksFrom size mode (now (places .entry)) i ≡ withChecks (2 * (mode - 1)) r []) ⌝ }
 {
     let count = slot_sizes::word_count(size);
     let mut bits: u8 = 0;
@@ -75,7 +75,7 @@ fn same_checks(size: usize, i: usize, mode: usize, places: &[u8], row: &[u8], r:
 }
 
 // The data of word i as received, and whether the word is the code word over them.
-fn clean_word(
+fn read_clean_word(
     size: usize,
     mode: usize,
     i: usize,
@@ -92,9 +92,9 @@ fn clean_word(
 }
 
 // Whether every word as received is the code word over its data: then these stand in order, and there is nothing to correct.
-pub fn clean(size: usize, mode: usize, places: &[u8], info: &mut [u8]) -> bool
-    requires { ⌜ (InRange size mode) × (length (now places) ≡ 2 * size) × (Below 16 (now places)) × (Data size mode (now info)) ⌝ }
-    ensures { λ b. ⌜ (Data size mode (now (info .exit))) × (b ≡ true → AllClean size mode (now (places .entry)) (now (info .exit)) (words size)) ⌝ }
+pub fn read_clean(size: usize, mode: usize, places: &[u8], message: &mut [u8]) -> bool
+    requires { ⌜ (InRange size mode) × (length (now places) ≡ 2 * size) × (Below 16 (now places)) × (Data size mode (now message)) ⌝ }
+    ensures { λ b. ⌜ (Data size mode (now (message .exit))) × (b ≡ true → AllClean size mode (now (places .entry)) (now (message .exit)) (words size)) ⌝ }
 {
     let count = slot_sizes::word_count(size);
     let checks = 2 * (mode - 1);
@@ -103,7 +103,7 @@ pub fn clean(size: usize, mode: usize, places: &[u8], info: &mut [u8]) -> bool
     let mut i: usize = 0;
     while i < count {
         let e = at + (slot_sizes::word_length(size, count, i) - checks);
-        if !clean_word(size, mode, i, places, &rows, &mut info[at..e]) {
+        if !read_clean_word(size, mode, i, places, &rows, &mut message[at..e]) {
             return false;
         }
         at = e;

@@ -44,16 +44,16 @@ decides-as : {P Q : Type 0} {r : Bool} → (P → Q) → (Q → P) → Decides P
 decides-as f g d = record { holds = λ e. f (d .holds e); fails = λ e q. d .fails e (g q) }
 
 -- the heading made anew, compared with the one that was sent
-pub matches-told : (size mode q h : ℕ) (info head rest : List ℕ) {r : Bool} → Data size mode info → h ≡ 2 * hash1 size + 2 * hash2 size mode → q ≡ requestIn size info
-    → head ≡ heading size mode q (take (length info - h) (drop h info)) → Decides (take h (head ++ rest) ≡ take h info) r → Decides (Matches size mode info) r
+pub matches-told : (size mode q h : ℕ) (message head rest : List ℕ) {r : Bool} → Data size mode message → h ≡ 2 * hash1 size + 2 * hash2 size mode → q ≡ requestIn size message
+    → head ≡ heading size mode q (take (length message - h) (drop h message)) → Decides (take h (head ++ rest) ≡ take h message) r → Decides (Matches size mode message) r
 unfolding Matches restIn
-matches-told size mode q h info head rest d e k f =
-    let n = length-drop h info in
-    let t : take (length info - h) (drop h info) ≡ drop h info = take-all (length info - h) (drop h info) (omega arith) in
-    let l : length head ≡ h = ap (λ (x : List ℕ). length x) f ∙ length-heading size mode q (take (length info - h) (drop h info)) ∙ sym e in
-    let x : take h (head ++ rest) ≡ heading size mode (requestIn size info) (drop (2 * hash1 size + 2 * hash2 size mode) info) =
-    take-at head rest h l ∙ f ∙ ap₂ (heading size mode) k (t ∙ ap (λ (m : ℕ). drop m info) e) in
-    let y : take h info ≡ take (2 * hash1 size + 2 * hash2 size mode) info = ap (λ (m : ℕ). take m info) e in
+matches-told size mode q h message head rest d e k f =
+    let n = length-drop h message in
+    let t : take (length message - h) (drop h message) ≡ drop h message = take-all (length message - h) (drop h message) (omega arith) in
+    let l : length head ≡ h = ap (λ (x : List ℕ). length x) f ∙ length-heading size mode q (take (length message - h) (drop h message)) ∙ sym e in
+    let x : take h (head ++ rest) ≡ heading size mode (requestIn size message) (drop (2 * hash1 size + 2 * hash2 size mode) message) =
+    take-at head rest h l ∙ f ∙ ap₂ (heading size mode) k (t ∙ ap (λ (m : ℕ). drop m message) e) in
+    let y : take h message ≡ take (2 * hash1 size + 2 * hash2 size mode) message = ap (λ (m : ℕ). take m message) e in
     decides-as (λ p. sym x ∙ p ∙ y) (λ p. x ∙ p ∙ sym y)
 
 -- the frame as the code rolls it

@@ -28,14 +28,14 @@ fn same(a: &[u8], b: &[u8]) -> bool
 }
 
 // Whether the heading is the one that the request and the frame's semi-octets make.
-pub fn matches(size: usize, mode: usize, request: u32, info: &[u8]) -> bool
-    requires { ⌜ (InRange size mode) × (request ≡ requestIn size (now info)) × (Data size mode (now info)) ⌝ }
-    ensures { λ r. ⌜ Decides (Matches size mode (now (info .entry))) r ⌝ }
+pub fn matches(size: usize, mode: usize, request: u32, message: &[u8]) -> bool
+    requires { ⌜ (InRange size mode) × (request ≡ requestIn size (now message)) × (Data size mode (now message)) ⌝ }
+    ensures { λ r. ⌜ Decides (Matches size mode (now (message .entry))) r ⌝ }
 {
     let h = 2 * slot_sizes::first_hash_size(size) + 2 * slot_sizes::second_hash_size(size, mode);
     let mut head = [0u8; 10];
-    slot_ordering::put_heading(size, mode, request, &info[h..], &mut head[..h]);
-    same(&head[..h], &info[..h])
+    slot_ordering::put_heading(size, mode, request, &message[h..], &mut head[..h]);
+    same(&head[..h], &message[..h])
 }
 
 // The frame of its semi-octets.
@@ -52,15 +52,15 @@ pub fn roll(a: &[u8], frame: &mut [u8])
 }
 
 // The frame, written where the heading matches and nowhere else.
-pub fn deliver(size: usize, mode: usize, request: u32, info: &[u8], frame: &mut [u8]) -> bool
-    requires { ⌜ (InRange size mode) × (request ≡ requestIn size (now info)) × (Data size mode (now info)) × (length (now frame) ≡ frameSize size mode) ⌝ }
-    ensures { λ r. ⌜ IsDelivered size mode (now (info .entry)) (now (frame .entry)) (now (frame .exit)) r ⌝ }
+pub fn deliver(size: usize, mode: usize, request: u32, message: &[u8], frame: &mut [u8]) -> bool
+    requires { ⌜ (InRange size mode) × (request ≡ requestIn size (now message)) × (Data size mode (now message)) × (length (now frame) ≡ frameSize size mode) ⌝ }
+    ensures { λ r. ⌜ IsDelivered size mode (now (message .entry)) (now (frame .entry)) (now (frame .exit)) r ⌝ }
 {
     let heading = 2 * slot_sizes::first_hash_size(size)
         + 2 * slot_sizes::second_hash_size(size, mode);
-    if !matches(size, mode, request, info) {
+    if !matches(size, mode, request, message) {
         return false;
     }
-    roll(&info[heading..], frame);
+    roll(&message[heading..], frame);
     true
 }

@@ -17,9 +17,9 @@ use Rattle.laws.proofs.Fill.{Filled, filled-last}
 use Rattle.gf16.specs.Field.{sum}
 use Rattle.code_word_laws.specs.Word.{distance}
 use Rattle.code_word_laws.specs.Make.{coded}
-use Rattle.code_word_laws.specs.Register.{poured}
+use Rattle.code_word_laws.specs.Register.{withChecks}
 use Rattle.code_word_laws.specs.Checks.{checkRows, summed}
-use Rattle.code_word_laws.proofs.Checks.{summed-coded, poured-append, digits-length}
+use Rattle.code_word_laws.proofs.Checks.{summed-coded, with-checks-append, digits-length}
 use Rattle.slot_laws.specs.Sizes.{InRange, words, wordLength, dataLength}
 use Rattle.slot_laws.specs.Semi.{pack}
 use Rattle.slot_laws.specs.Words.{piece, dataWord, signatureRow, signature, placeOf, wordOf, numberIn, slotFrom}
@@ -139,10 +139,10 @@ pub span-end : (size : ℕ) (g : ℕ → ℕ → ℕ) (i : ℕ) (f : ℕ → ℕ
 span-end size g i f lo hi lo′ hi′ old new a b s = rw (a, b) at s
 
 -- data and check semi-octets together are the word
-pub span-both : (size : ℕ) (g : ℕ → ℕ → ℕ) (i n : ℕ) (checks info w old mid new : List ℕ) → w ≡ checks ++ info → length checks ≡ n
-    → length w ≡ wordLength size i → Spanned size g i (λ k. getD info (k - n) 0) n (wordLength size i) old mid
+pub span-both : (size : ℕ) (g : ℕ → ℕ → ℕ) (i n : ℕ) (checks message w old mid new : List ℕ) → w ≡ checks ++ message → length checks ≡ n
+    → length w ≡ wordLength size i → Spanned size g i (λ k. getD message (k - n) 0) n (wordLength size i) old mid
     → Spanned size g i (λ k. getD checks k 0) 0 n mid new → Scattered size g i w old new
-span-both size g i n checks info w old mid new e c l a b = record {
+span-both size g i n checks message w old mid new e c l a b = record {
   long = b .long ∙ a .long;
   mine = λ k h. at k h (ltb k n) refl;
   others = λ p h d. b .others p h d ∙ a .others p h d;
@@ -151,12 +151,12 @@ span-both size g i n checks info w old mid new e c l a b = record {
     at : (k : ℕ) → k < length w → (t : Bool) → ltb k n ≡ t → getD new (placeOf size i k) 0 ≡ sum (getD w k 0) (g i k)
     at k h true t =
         let q : k < n = ltb-true k n t in
-        b .mine k (omega arith) q ∙ ap (λ (x : ℕ). sum x (g i k)) (sym (ap (λ (x : List ℕ). getD x k 0) e ∙ List·getD-append checks info 0 k (omega arith)))
+        b .mine k (omega arith) q ∙ ap (λ (x : ℕ). sum x (g i k)) (sym (ap (λ (x : List ℕ). getD x k 0) e ∙ List·getD-append checks message 0 k (omega arith)))
     at k h false t =
         let q : n ≤ k = ltb-false k n t in
         let s : k ≡ length checks + (k - n) = omega arith in
         b .rest k (omega arith) (λ x y. omega arith) ∙ a .mine k q (omega arith)
-        ∙ ap (λ (x : ℕ). sum x (g i k)) (sym (ap₂ (λ (x : List ℕ) (y : ℕ). getD x y 0) e s ∙ getD-append-add checks info (k - n) 0))
+        ∙ ap (λ (x : ℕ). sum x (g i k)) (sym (ap₂ (λ (x : List ℕ) (y : ℕ). getD x y 0) e s ∙ getD-append-add checks message (k - n) 0))
 
 -- ---- words placed
 
@@ -198,51 +198,51 @@ pack-is f n k slot h s = filled-last (λ j. f (2 * j) + 16 * f (2 * j + 1)) n k 
 
 -- ---- a word with its checks
 
-module _ (mode : ℕ) (info : List ℕ) (from : 2 ≤ mode) (to : mode ≤ 4) (short : 2 * (mode - 1) + length info ≤ 15) (small : Below 16 info) where
+module _ (mode : ℕ) (message : List ℕ) (from : 2 ≤ mode) (to : mode ≤ 4) (short : 2 * (mode - 1) + length message ≤ 15) (small : Below 16 message) where
   -- the check semi-octets summed up over the data, in front of them, are the code word
-  pub summed-word : (rows : List ℕ) (r : ℕ) → rows ≡ checkRows (distance mode - 1) → r ≡ summed rows (λ k. getD info k 0) (length info)
-      → coded (distance mode) info ≡ poured (2 * (mode - 1)) r [] ++ info
+  pub summed-word : (rows : List ℕ) (r : ℕ) → rows ≡ checkRows (distance mode - 1) → r ≡ summed rows (λ k. getD message k 0) (length message)
+      → coded (distance mode) message ≡ withChecks (2 * (mode - 1)) r [] ++ message
   summed-word rows r e d =
       let n : distance mode - 1 ≡ 2 * (mode - 1) = omega arith in
-      sym (summed-coded (distance mode) info (omega arith) (omega arith) (semi-octets-of info small))
-      ∙ ap (λ (x : ℕ). poured (distance mode - 1) x info) (sym (d ∙ ap (λ (x : List ℕ). summed x (λ k. getD info k 0) (length info)) e))
-      ∙ ap (λ (x : ℕ). poured x r info) n
-      ∙ poured-append (2 * (mode - 1)) r [] info
+      sym (summed-coded (distance mode) message (omega arith) (omega arith) (semi-octets-of message small))
+      ∙ ap (λ (x : ℕ). withChecks (distance mode - 1) x message) (sym (d ∙ ap (λ (x : List ℕ). summed x (λ k. getD message k 0) (length message)) e))
+      ∙ ap (λ (x : ℕ). withChecks x r message) n
+      ∙ with-checks-append (2 * (mode - 1)) r [] message
 
-pub word-scattered : (size mode i r : ℕ) (rows info old mid new : List ℕ) → InRange size mode → i < words size → length info ≡ dataLength size mode i → Below 16 info
-    → rows ≡ checkRows (distance mode - 1) → r ≡ summed rows (λ k. getD info k 0) (length info)
-    → Spanned size (signature mode) i (λ k. getD info (k - 2 * (mode - 1)) 0) (2 * (mode - 1)) (wordLength size i) old mid
-    → Spanned size (signature mode) i (λ k. getD (poured (2 * (mode - 1)) r []) k 0) 0 (2 * (mode - 1)) mid new
-    → Scattered size (signature mode) i (coded (distance mode) info) old new
-word-scattered size mode i r rows info old mid new range inside long small e d a b =
+pub word-scattered : (size mode i r : ℕ) (rows message old mid new : List ℕ) → InRange size mode → i < words size → length message ≡ dataLength size mode i → Below 16 message
+    → rows ≡ checkRows (distance mode - 1) → r ≡ summed rows (λ k. getD message k 0) (length message)
+    → Spanned size (signature mode) i (λ k. getD message (k - 2 * (mode - 1)) 0) (2 * (mode - 1)) (wordLength size i) old mid
+    → Spanned size (signature mode) i (λ k. getD (withChecks (2 * (mode - 1)) r []) k 0) 0 (2 * (mode - 1)) mid new
+    → Scattered size (signature mode) i (coded (distance mode) message) old new
+word-scattered size mode i r rows message old mid new range inside long small e d a b =
     let n : ℕ = 2 * (mode - 1) in
     let f = checks-fit size mode i range inside in
     let h = length-high size i (range .size-from) in
     let l = digits-length n r in
-    let w = summed-word mode info (range .mode-from) (range .mode-to) (omega arith) small rows r e d in
-    span-both size (signature mode) i n (poured n r []) info (coded (distance mode) info) old mid new w l
-    (ap (λ (x : List ℕ). length x) w ∙ length-append (poured n r []) info ∙ omega arith) a b
+    let w = summed-word mode message (range .mode-from) (range .mode-to) (omega arith) small rows r e d in
+    span-both size (signature mode) i n (withChecks n r []) message (coded (distance mode) message) old mid new w l
+    (ap (λ (x : List ℕ). length x) w ∙ length-append (withChecks n r []) message ∙ omega arith) a b
 
 -- ---- the loop over the words
 
 -- the part of the data that is lent for word i
-module _ (size mode i at n e : ℕ) (info : List ℕ) (range : InRange size mode) (inside : i < words size) (start : at ≡ total (dataLength size mode) i)
-    (given : Data size mode info) (is : n ≡ wordLength size i) (end : e ≡ at + (n - 2 * (mode - 1))) where
-  part-is : take (e - at) (drop at info) ≡ dataWord size mode info i
+module _ (size mode i at n e : ℕ) (message : List ℕ) (range : InRange size mode) (inside : i < words size) (start : at ≡ total (dataLength size mode) i)
+    (given : Data size mode message) (is : n ≡ wordLength size i) (end : e ≡ at + (n - 2 * (mode - 1))) where
+  part-is : take (e - at) (drop at message) ≡ dataWord size mode message i
   unfolding dataWord piece
   part-is =
       let f = checks-fit size mode i range inside in
       let d : e - at ≡ dataLength size mode i = omega arith in
-      ap₂ (λ (x y : ℕ). take x (drop y info)) d start
+      ap₂ (λ (x y : ℕ). take x (drop y message)) d start
 
-  pub part-long : length (take (e - at) (drop at info)) ≡ dataLength size mode i
-  part-long = ap (λ (x : List ℕ). length x) part-is ∙ length-word size mode info range given i inside
+  pub part-long : length (take (e - at) (drop at message)) ≡ dataLength size mode i
+  part-long = ap (λ (x : List ℕ). length x) part-is ∙ length-word size mode message range given i inside
 
-  pub part-below : Below 16 (take (e - at) (drop at info))
-  part-below = rw part-is (below-of (dataWord size mode info i) (semi-octets-word size mode info range given i))
+  pub part-below : Below 16 (take (e - at) (drop at message))
+  part-below = rw part-is (below-of (dataWord size mode message i) (semi-octets-word size mode message range given i))
 
-  pub part-scattered : (g : ℕ → ℕ → ℕ) (old new : List ℕ) → Scattered size g i (coded (distance mode) (take (e - at) (drop at info))) old new
-      → Scattered size g i (codeWord size mode info i) old new
+  pub part-scattered : (g : ℕ → ℕ → ℕ) (old new : List ℕ) → Scattered size g i (coded (distance mode) (take (e - at) (drop at message))) old new
+      → Scattered size g i (codeWord size mode message i) old new
   unfolding codeWord
   part-scattered g old new s = rw part-is at s
 
@@ -258,10 +258,10 @@ pub start-first : (size mode : ℕ) → 0 ≡ total (dataLength size mode) 0
 start-first size mode = sym (total-none (dataLength size mode))
 
 -- all words at their places, packed, are the slot
-pub written : (size mode n : ℕ) (info places lent slot : List ℕ) → InRange size mode → Data size mode info → length lent ≡ size
-    → Placed size (signature mode) (codeWord size mode info) n places → words size ≤ n → slot ≡ pack (λ p. getD places p 0) (length lent)
-    → slot ≡ slotWith size mode info
+pub written : (size mode n : ℕ) (message places lent slot : List ℕ) → InRange size mode → Data size mode message → length lent ≡ size
+    → Placed size (signature mode) (codeWord size mode message) n places → words size ≤ n → slot ≡ pack (λ p. getD places p 0) (length lent)
+    → slot ≡ slotWith size mode message
 unfolding slotWith
-written size mode n info places lent slot r d l p h e =
-    placed-last size (signature mode) (codeWord size mode info) (r .size-from) (all-words size mode info r d) n places slot p h
+written size mode n message places lent slot r d l p h e =
+    placed-last size (signature mode) (codeWord size mode message) (r .size-from) (all-words size mode message r d) n places slot p h
     (e ∙ ap (pack (λ p. getD places p 0)) l)

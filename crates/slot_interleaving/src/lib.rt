@@ -8,7 +8,7 @@ ghost use lib.ListN.{length, getD, take, drop};
 ghost use Rattle.laws.specs.Tab.{Below};
 ghost use Rattle.code_word_laws.specs.Word.{distance};
 ghost use Rattle.code_word_laws.specs.Make.{coded};
-ghost use Rattle.code_word_laws.specs.Register.{poured};
+ghost use Rattle.code_word_laws.specs.Register.{withChecks};
 ghost use Rattle.code_word_laws.specs.Checks.{checkRows, summed};
 ghost use Rattle.slot_laws.specs.Sizes.{InRange, words, wordLength, dataLength};
 ghost use Rattle.slot_laws.specs.Semi.{pack};
@@ -56,21 +56,21 @@ fn scatter_data(
     size: usize,
     i: usize,
     mode: usize,
-    info: &[u8],
+    message: &[u8],
     row: &[u8],
     rows: &[u32; 208],
     places: &mut [u8],
 ) -> u32
-    requires { ⌜ (InRange size mode) × (i < words size) × (length (now info) ≡ dataLength size mode i) × (length (now row) ≡ 15) × (length (now places) ≡ 800) × ((k : ℕ) → getD (now row) k 0 ≡ signature mode i k) ⌝ }
-    ensures { λ r. ⌜ r ≡ summed (now (rows .entry)) (λ k. getD (now (info .entry)) k 0) (length (now (info .entry))) ⌝ }
-    ensures { λ r. ⌜ Spanned size (signature mode) i (λ k. getD (now (info .entry)) (k - 2 * (mode - 1)) 0) (2 * (mode - 1)) (wordLength size i) (now (places .entry)) (now (places .exit)) ⌝ }
+    requires { ⌜ (InRange size mode) × (i < words size) × (length (now message) ≡ dataLength size mode i) × (length (now row) ≡ 15) × (length (now places) ≡ 800) × ((k : ℕ) → getD (now row) k 0 ≡ signature mode i k) ⌝ }
+    ensures { λ r. ⌜ r ≡ summed (now (rows .entry)) (λ k. getD (now (message .entry)) k 0) (length (now (message .entry))) ⌝ }
+    ensures { λ r. ⌜ Spanned size (signature mode) i (λ k. getD (now (message .entry)) (k - 2 * (mode - 1)) 0) (2 * (mode - 1)) (wordLength size i) (now (places .entry)) (now (places .exit)) ⌝ }
 {
     let count = slot_sizes::word_count(size);
     let checks = 2 * (mode - 1);
     let mut r: u32 = 0;
     let mut k: usize = 0;
-    while k < info.len() {
-        let c = info[k];
+    while k < message.len() {
+        let c = message[k];
         r = code_word::with_data(rows, k, c, r);
         places[2 * size - count * (checks + k) - i - 1] = c ^ row[checks + k];
         k = k + 1;
@@ -81,7 +81,7 @@ fn scatter_data(
 // The check semi-octets of word i, with the signature's row added, to their places; the last one is r's lowest digit.
 fn scatter_checks(size: usize, i: usize, mode: usize, r: u32, row: &[u8], places: &mut [u8])
     requires { ⌜ (InRange size mode) × (i < words size) × (length (now row) ≡ 15) × (length (now places) ≡ 800) × ((k : ℕ) → getD (now row) k 0 ≡ signature mode i k) ⌝ }
-    ensures { λ _. ⌜ Spanned size (signature mode) i (λ k. getD (poured (2 * (mode - 1)) r []) k 0) 0 (2 * (mode - 1)) (now (places .entry)) (now (places .exit)) ⌝ }
+    ensures { λ _. ⌜ Spanned size (signature mode) i (λ k. getD (withChecks (2 * (mode - 1)) r []) k 0) 0 (2 * (mode - 1)) (now (places .entry)) (now (places .exit)) ⌝ }
 {
     let count = slot_sizes::word_count(size);
     let mut rest = r;
@@ -106,19 +106,26 @@ fn pack_bytes(places: &[u8], slot: &mut [u8])
 }
 
 // Code word i over its data, to its places.
-fn place_word(size: usize, mode: usize, i: usize, info: &[u8], rows: &[u32; 208], places: &mut [u8])
-    requires { ⌜ (InRange size mode) × (i < words size) × (length (now info) ≡ dataLength size mode i) × (Below 16 (now info)) × (now rows ≡ checkRows (distance mode - 1)) × (length (now places) ≡ 800) ⌝ }
-    ensures { λ _. ⌜ Scattered size (signature mode) i (coded (distance mode) (now (info .entry))) (now (places .entry)) (now (places .exit)) ⌝ }
+fn place_word(
+    size: usize,
+    mode: usize,
+    i: usize,
+    message: &[u8],
+    rows: &[u32; 208],
+    places: &mut [u8],
+)
+    requires { ⌜ (InRange size mode) × (i < words size) × (length (now message) ≡ dataLength size mode i) × (Below 16 (now message)) × (now rows ≡ checkRows (distance mode - 1)) × (length (now places) ≡ 800) ⌝ }
+    ensures { λ _. ⌜ Scattered size (signature mode) i (coded (distance mode) (now (message .entry))) (now (places .entry)) (now (places .exit)) ⌝ }
 {
     let row = signature_row(mode, i);
-    let r = scatter_data(size, i, mode, info, &row, rows, places);
+    let r = scatter_data(size, i, mode, message, &row, rows, places);
     scatter_checks(size, i, mode, r, &row, places);
 }
 
 // The slot with these data.
-pub fn write_slot(size: usize, mode: usize, info: &[u8], slot: &mut [u8])
-    requires { ⌜ (InRange size mode) × (Data size mode (now info)) × (length (now slot) ≡ size) ⌝ }
-    ensures { λ _. ⌜ now (slot .exit) ≡ slotWith size mode (now (info .entry)) ⌝ }
+pub fn write_slot(size: usize, mode: usize, message: &[u8], slot: &mut [u8])
+    requires { ⌜ (InRange size mode) × (Data size mode (now message)) × (length (now slot) ≡ size) ⌝ }
+    ensures { λ _. ⌜ now (slot .exit) ≡ slotWith size mode (now (message .entry)) ⌝ }
 {
     let count = slot_sizes::word_count(size);
     let rows = code_word::check_rows(mode as u32);
@@ -127,7 +134,7 @@ pub fn write_slot(size: usize, mode: usize, info: &[u8], slot: &mut [u8])
     let mut i: usize = 0;
     while i < count {
         let e = at + (slot_sizes::word_length(size, count, i) - 2 * (mode - 1));
-        place_word(size, mode, i, &info[at..e], &rows, &mut places);
+        place_word(size, mode, i, &message[at..e], &rows, &mut places);
         at = e;
         i = i + 1;
     }

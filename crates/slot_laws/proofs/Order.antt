@@ -15,7 +15,7 @@ use Rattle.laws.proofs.Tab.{below-append, below-drop}
 use Rattle.code_word_laws.specs.Word.{distance}
 use Rattle.slot_laws.specs.Sizes.{InRange, wordLength, hash1, hash2, frameSize}
 use Rattle.slot_laws.specs.Hash.{Bits, bitsOf, Degree, hash, powers, poly14, poly16, poly22}
-use Rattle.slot_laws.specs.Order.{unrolled, partN, firstHash, secondHash, semis, heading, ordered, swapped, mixed, dataOf, Data}
+use Rattle.slot_laws.specs.Order.{unrolled, partN, firstHash, secondHash, semis, heading, ordered, swapped, requestSwapped, dataOf, Data}
 use Rattle.slot_laws.specs.Slot.{Sent}
 use Rattle.slot_laws.specs.Back.{rolled, requestIn, restIn, Matches, requestOf, frameOf}
 use Rattle.slot_laws.proofs.Sizes.{hash1-low, swap-apart, swap-in}
@@ -117,17 +117,17 @@ swapped-twice i j s n p q h =
     let f : b / 4 * 4 + a / 4 ≡ getD s j 0 = omega arith in
     rw (x, y, e, f) (put-back s i j a b n)
 
-pub data-mixed : (size mode : ℕ) (s : List ℕ) → Data size mode s → Data size mode (mixed size mode s)
-unfolding mixed
-data-mixed size mode s d = record {
+pub data-request-swapped : (size mode : ℕ) (s : List ℕ) → Data size mode s → Data size mode (requestSwapped size mode s)
+unfolding requestSwapped
+data-request-swapped size mode s d = record {
   long = length-swapped (2 * hash1 size - 1) (wordLength size 0 - distance mode) s ∙ d .long;
   below = below-swapped (2 * hash1 size - 1) (wordLength size 0 - distance mode) s (d .below);
 }
 
 -- the swap undone (A.32 to A.36)
-pub mixed-twice : (size mode : ℕ) (s : List ℕ) → InRange size mode → Data size mode s → mixed size mode (mixed size mode s) ≡ s
-unfolding mixed
-mixed-twice size mode s r d =
+pub request-swapped-twice : (size mode : ℕ) (s : List ℕ) → InRange size mode → Data size mode s → requestSwapped size mode (requestSwapped size mode s) ≡ s
+unfolding requestSwapped
+request-swapped-twice size mode s r d =
     let a = swap-apart size mode r in
     let b = swap-in size mode r in
     let l = d .long in
@@ -161,7 +161,7 @@ data-ordered size mode q frame = record {
 
 pub data-of : (size mode q : ℕ) (frame : List ℕ) → Data size mode (dataOf size mode q frame)
 unfolding dataOf
-data-of size mode q frame = data-mixed size mode (ordered size mode q (unrolled (frameSize size mode) frame)) (data-ordered size mode q frame)
+data-of size mode q frame = data-request-swapped size mode (ordered size mode q (unrolled (frameSize size mode) frame)) (data-ordered size mode q frame)
 
 -- ---- the way back, of data in order
 
@@ -227,30 +227,30 @@ length-rest size mode t d = let l = d .long in length-drop (2 * hash1 size + 2 *
 pub sent-of : (size mode : ℕ) (s : List ℕ) → Data size mode s → Sent size mode (requestOf size mode s) (frameOf size mode s)
 unfolding requestOf frameOf
 sent-of size mode s d =
-    let t = mixed size mode s in
-    let m = data-mixed size mode s d in
+    let t = requestSwapped size mode s in
+    let m = data-request-swapped size mode s d in
     record {
       request = request-lt size t (m .below);
       frame-bytes = bytes-rolled (frameSize size mode) (restIn size mode t) (below-rest size mode t (m .below));
     }
 
 -- data whose heading matches are the data of the request and the frame read from them
-pub data-back : (size mode : ℕ) (s : List ℕ) → InRange size mode → Data size mode s → Matches size mode (mixed size mode s)
+pub data-back : (size mode : ℕ) (s : List ℕ) → InRange size mode → Data size mode s → Matches size mode (requestSwapped size mode s)
     → dataOf size mode (requestOf size mode s) (frameOf size mode s) ≡ s
 unfolding dataOf requestOf frameOf
 data-back size mode s r d m =
-    let t = mixed size mode s in
-    let k = data-mixed size mode s d in
-    ap (λ (a : List ℕ). mixed size mode (ordered size mode (requestIn size t) a))
+    let t = requestSwapped size mode s in
+    let k = data-request-swapped size mode s d in
+    ap (λ (a : List ℕ). requestSwapped size mode (ordered size mode (requestIn size t) a))
     (unrolled-rolled (frameSize size mode) (restIn size mode t) (length-rest size mode t k) (below-rest size mode t (k .below)))
-    ∙ ap (mixed size mode) (ordered-back size mode t m)
-    ∙ mixed-twice size mode s r d
+    ∙ ap (requestSwapped size mode) (ordered-back size mode t m)
+    ∙ request-swapped-twice size mode s r d
 
 -- the data of a request and a frame give them back, and match
 module _ (size mode q : ℕ) (frame : List ℕ) (range : InRange size mode) (sent : Sent size mode q frame) where
-  unmixed : mixed size mode (dataOf size mode q frame) ≡ ordered size mode q (unrolled (frameSize size mode) frame)
+  unmixed : requestSwapped size mode (dataOf size mode q frame) ≡ ordered size mode q (unrolled (frameSize size mode) frame)
   unfolding dataOf
-  unmixed = mixed-twice size mode (ordered size mode q (unrolled (frameSize size mode) frame)) range (data-ordered size mode q frame)
+  unmixed = request-swapped-twice size mode (ordered size mode q (unrolled (frameSize size mode) frame)) range (data-ordered size mode q frame)
 
   pub request-back : requestOf size mode (dataOf size mode q frame) ≡ q
   unfolding requestOf
@@ -263,5 +263,5 @@ module _ (size mode q : ℕ) (frame : List ℕ) (range : InRange size mode) (sen
       ∙ ap (rolled (frameSize size mode)) (rest-ordered size mode q (unrolled (frameSize size mode) frame))
       ∙ rolled-unrolled (frameSize size mode) frame (sent .frame-bytes)
 
-  pub matches-back : Matches size mode (mixed size mode (dataOf size mode q frame))
+  pub matches-back : Matches size mode (requestSwapped size mode (dataOf size mode q frame))
   matches-back = rw unmixed (matches-ordered size mode q (unrolled (frameSize size mode) frame) (sent .request))

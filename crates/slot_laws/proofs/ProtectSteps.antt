@@ -16,20 +16,20 @@ abbrev pub blanks : List ℕ
 blanks = replicate 800 0
 
 -- the data's length, from the parts that the code adds
-pub info-long : (size mode a b n : ℕ) → InRange size mode → a ≡ hash1 size → b ≡ hash2 size mode → n ≡ frameSize size mode
+pub message-long : (size mode a b n : ℕ) → InRange size mode → a ≡ hash1 size → b ≡ hash2 size mode → n ≡ frameSize size mode
     → (2 * a + 2 * b + 2 * n ≡ 2 * hash1 size + 2 * hash2 size mode + 2 * frameSize size mode) × (2 * a + 2 * b + 2 * n ≤ 800)
-info-long size mode a b n r e f g =
+message-long size mode a b n r e f g =
     let s = sizes size mode r in
     let t = r .size-to in
     (omega arith, omega arith)
 
 -- the data are the front of the buffer
-pub info-is : (size mode q e : ℕ) (frame last rest : List ℕ) → e ≡ 2 * hash1 size + 2 * hash2 size mode + 2 * frameSize size mode → last ≡ dataOf size mode q frame
+pub message-is : (size mode q e : ℕ) (frame last rest : List ℕ) → e ≡ 2 * hash1 size + 2 * hash2 size mode + 2 * frameSize size mode → last ≡ dataOf size mode q frame
     → take e (last ++ rest) ≡ dataOf size mode q frame
-info-is size mode q e frame last rest h f =
+message-is size mode q e frame last rest h f =
     take-at last rest e (ap (λ (s : List ℕ). length s) f ∙ data-of size mode q frame .long ∙ sym h) ∙ f
 
 pub slot-is : (size mode q e : ℕ) (frame last rest new : List ℕ) → e ≡ 2 * hash1 size + 2 * hash2 size mode + 2 * frameSize size mode
     → last ≡ dataOf size mode q frame → new ≡ slotWith size mode (take e (last ++ rest)) → new ≡ slotOf size mode q frame
 unfolding slotOf
-slot-is size mode q e frame last rest new h f g = g ∙ ap (slotWith size mode) (info-is size mode q e frame last rest h f)
+slot-is size mode q e frame last rest new h f g = g ∙ ap (slotWith size mode) (message-is size mode q e frame last rest h f)

@@ -18,7 +18,7 @@ use Rattle.code_word_laws.specs.Make.{coded, CodeWord}
 use Rattle.code_word_laws.proofs.Coded.{coded-is, coded-only}
 use Rattle.slot_laws.specs.Sizes.{InRange, words, dataLength}
 use Rattle.slot_laws.specs.Semi.{Bytes}
-use Rattle.slot_laws.specs.Order.{mixed, dataOf, Data}
+use Rattle.slot_laws.specs.Order.{requestSwapped, dataOf, Data}
 use Rattle.slot_laws.specs.Words.{piece, dataWord, row, signatureRow, signature}
 use Rattle.slot_laws.specs.Back.{Matches, requestOf, frameOf}
 use Rattle.slot_laws.specs.Slot.{Sent, codeWord, slotWith, slotOf, wordIn}
@@ -106,16 +106,16 @@ pub words-in : (size mode : ℕ) (slot : List ℕ) → InRange size mode → All
 unfolding wordIn
 words-in size mode slot r = words-received size (signature mode) (r .size-from) (signature-lt mode) slot
 
-length-info : (size mode : ℕ) (slot : List ℕ) → InRange size mode → (i : ℕ) → i < words size
+length-message : (size mode : ℕ) (slot : List ℕ) → InRange size mode → (i : ℕ) → i < words size
     → length (drop (distance mode - 1) (wordIn size mode slot i)) ≡ dataLength size mode i
-length-info size mode slot r i l =
+length-message size mode slot r i l =
     let c = checks-fit size mode i r l in
     length-drop (distance mode - 1) (wordIn size mode slot i) ∙ ap (λ (x : ℕ). x - (distance mode - 1)) (words-in size mode slot r .long i l) ∙ omega arith
 
 pub data-gathered : (size mode : ℕ) (slot : List ℕ) → InRange size mode → Data size mode (gathered size mode slot)
 unfolding gathered
 data-gathered size mode slot r = record {
-  long = length-joined (λ i. drop (distance mode - 1) (wordIn size mode slot i)) (dataLength size mode) (words size) (length-info size mode slot r)
+  long = length-joined (λ i. drop (distance mode - 1) (wordIn size mode slot i)) (dataLength size mode) (words size) (length-message size mode slot r)
       ∙ data-lengths size mode r;
   below = below-joined 16 (λ i. drop (distance mode - 1) (wordIn size mode slot i)) (words size) (omega arith)
       (λ i l. below-drop 16 (distance mode - 1) (wordIn size mode slot i) (words-in size mode slot r .below i l));
@@ -140,7 +140,7 @@ word-back : (size mode : ℕ) (slot : List ℕ) → InRange size mode → (i : �
 word-back size mode slot r i l v =
     let w = wordIn size mode slot i in
     let a = words-in size mode slot r in
-    let n = length-info size mode slot r i l in
+    let n = length-message size mode slot r i l in
     let c = checks-fit size mode i r l in
     let h = length-high size i (r .size-from) in
     let b = below-drop 16 (distance mode - 1) w (a .below i l) in
@@ -156,7 +156,7 @@ slot-gathered size mode slot r b v =
     slot-same size (signature mode) (codeWord size mode (gathered size mode slot)) (wordIn size mode slot) (r .size-from)
     (λ i l.
     ap (coded (distance mode))
-    (piece-joined (λ i. drop (distance mode - 1) (wordIn size mode slot i)) (dataLength size mode) (words size) i l (length-info size mode slot r))
+    (piece-joined (λ i. drop (distance mode - 1) (wordIn size mode slot i)) (dataLength size mode) (words size) i l (length-message size mode slot r))
     ∙ word-back size mode slot r i l (v i l))
     ∙ slot-received size (signature mode) (r .size-from) (signature-lt mode) slot b
 
@@ -182,7 +182,7 @@ unfoldable pub frameFrom : ℕ → ℕ → List ℕ → List ℕ
 frameFrom size mode slot = frameOf size mode (gathered size mode slot)
 
 unfoldable pub HashesMatch : ℕ → ℕ → List ℕ → Type 0
-HashesMatch size mode slot = Matches size mode (mixed size mode (gathered size mode slot))
+HashesMatch size mode slot = Matches size mode (requestSwapped size mode (gathered size mode slot))
 
 pub sent-from : (size mode : ℕ) (slot : List ℕ) → InRange size mode → Sent size mode (requestFrom size mode slot) (frameFrom size mode slot)
 unfolding requestFrom frameFrom

@@ -7,7 +7,7 @@ use Prim.Native.Nat.{ℕ, _+_, _*_, _-_, _/_}
 use lib.ListN.{take, drop, getD}
 use Rattle.slot_laws.specs.Sizes.{hash1, hash2, frameSize}
 use Rattle.slot_laws.specs.Semi.{pack}
-use Rattle.slot_laws.specs.Order.{heading, mixed}
+use Rattle.slot_laws.specs.Order.{heading, requestSwapped}
 
 -- the frame of n bytes that has these semi-octets, byte order reversed
 unfoldable pub rolled : ℕ → List ℕ → List ℕ
@@ -27,7 +27,7 @@ Matches size mode t = heading size mode (requestIn size t) (restIn size mode t) 
 
 -- the same from the data as the words carry them, the swap undone
 unfoldable pub requestOf : ℕ → ℕ → List ℕ → ℕ
-requestOf size mode s = requestIn size (mixed size mode s)
+requestOf size mode s = requestIn size (requestSwapped size mode s)
 
 unfoldable pub frameOf : ℕ → ℕ → List ℕ → List ℕ
-frameOf size mode s = rolled (frameSize size mode) (restIn size mode (mixed size mode s))
+frameOf size mode s = rolled (frameSize size mode) (restIn size mode (requestSwapped size mode s))

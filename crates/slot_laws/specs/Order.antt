@@ -51,12 +51,12 @@ unfoldable pub swapped : ℕ → ℕ → List ℕ → List ℕ
 swapped i j s = set (set s i (getD s i 0 % 4 + 4 * (getD s j 0 % 4))) j (getD s j 0 / 4 * 4 + getD s i 0 / 4)
 
 -- the request's bits 8 h1 - 2 and 8 h1 - 1 and the bits k and k + 1, k = 4 (L(0) - d), change places (A.32 to A.36)
-unfoldable pub mixed : ℕ → ℕ → List ℕ → List ℕ
-mixed size mode s = swapped (2 * hash1 size - 1) (wordLength size 0 - distance mode) s
+unfoldable pub requestSwapped : ℕ → ℕ → List ℕ → List ℕ
+requestSwapped size mode s = swapped (2 * hash1 size - 1) (wordLength size 0 - distance mode) s
 
 -- the data semi-octets of the slot (A.37)
 unfoldable pub dataOf : ℕ → ℕ → ℕ → List ℕ → List ℕ
-dataOf size mode q frame = mixed size mode (ordered size mode q (unrolled (frameSize size mode) frame))
+dataOf size mode q frame = requestSwapped size mode (ordered size mode q (unrolled (frameSize size mode) frame))
 
 -- the data semi-octets of a slot: as many as the hashes and the frame have
 pub record Data (size mode : ℕ) (s : List ℕ) : Type 0 where

@@ -13,7 +13,7 @@ use Rattle.laws.proofs.Tab.{tab-is}
 use Rattle.laws.proofs.Fill.{Filled, filled-next, filled-last}
 use Rattle.slot_laws.specs.Sizes.{InRange, wordLength, hash1, hash2, frameSize}
 use Rattle.slot_laws.specs.Semi.{half, semi}
-use Rattle.slot_laws.specs.Order.{unrolled, semis, heading, ordered, swapped, mixed, dataOf, firstHash, secondHash, Data}
+use Rattle.slot_laws.specs.Order.{unrolled, semis, heading, ordered, swapped, requestSwapped, dataOf, firstHash, secondHash, Data}
 use Rattle.slot_laws.proofs.Order.{length-semis, getD-semis, length-heading, data-ordered}
 use Rattle.slot_laws.proofs.Sizes.{swap-apart, swap-in, sizes}
 use Rattle.slot_sizes.proofs.SizeSteps.{hash1-forty, hash1-other}
@@ -116,17 +116,17 @@ heading-is size mode q e a out front rest v w h k f g x y =
 
 -- ---- the swap
 
-pub mix-inside : (size mode a l : ℕ) (s : List ℕ) → InRange size mode → Data size mode s → a ≡ hash1 size → l ≡ wordLength size 0
+pub swap-request-inside : (size mode a l : ℕ) (s : List ℕ) → InRange size mode → Data size mode s → a ≡ hash1 size → l ≡ wordLength size 0
     → (2 * a - 1 < length s) × (l - (2 * mode - 1) < length s)
-mix-inside size mode a l s r d e f =
+swap-request-inside size mode a l s r d e f =
     let x = swap-apart size mode r in
     let y = swap-in size mode r in
     let z = d .long in
     (omega arith, omega arith)
 
-pub mixed-is : (size mode a l : ℕ) (s new : List ℕ) → a ≡ hash1 size → l ≡ wordLength size 0 → new ≡ swapped (2 * a - 1) (l - (2 * mode - 1)) s → new ≡ mixed size mode s
-unfolding mixed
-mixed-is size mode a l s new e f g = g ∙ ap₂ (λ (x y : ℕ). swapped (2 * x - 1) (y - (2 * mode - 1)) s) e f
+pub request-swapped-is : (size mode a l : ℕ) (s new : List ℕ) → a ≡ hash1 size → l ≡ wordLength size 0 → new ≡ swapped (2 * a - 1) (l - (2 * mode - 1)) s → new ≡ requestSwapped size mode s
+unfolding requestSwapped
+request-swapped-is size mode a l s new e f g = g ∙ ap₂ (λ (x y : ℕ). swapped (2 * x - 1) (y - (2 * mode - 1)) s) e f
 
 -- ---- the heading put in front
 
@@ -169,10 +169,10 @@ arranged size mode q h frame out last front e l n u f =
 pub data-arranged : (size mode q : ℕ) (frame front : List ℕ) → front ≡ ordered size mode q (unrolled (frameSize size mode) frame) → Data size mode front
 data-arranged size mode q frame front e = rw e (data-ordered size mode q frame)
 
-pub data-is : (size mode q : ℕ) (frame front new : List ℕ) → front ≡ ordered size mode q (unrolled (frameSize size mode) frame) → new ≡ mixed size mode front
+pub data-is : (size mode q : ℕ) (frame front new : List ℕ) → front ≡ ordered size mode q (unrolled (frameSize size mode) frame) → new ≡ requestSwapped size mode front
     → new ≡ dataOf size mode q frame
 unfolding dataOf
-data-is size mode q frame front new e f = f ∙ ap (mixed size mode) e
+data-is size mode q frame front new e f = f ∙ ap (requestSwapped size mode) e
 
 pub frame-fits : (size mode : ℕ) → InRange size mode → frameSize size mode ≤ 400
 frame-fits size mode r = let s = sizes size mode r in let t = r .size-to in omega arith

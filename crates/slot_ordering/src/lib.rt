@@ -6,7 +6,7 @@ ghost use Prim.Native.Nat.{_+_, _-_, _*_, _^_, _≤_, _<_};
 ghost use lib.ListN.{length, drop};
 ghost use Rattle.laws.specs.Tab.{Below};
 ghost use Rattle.slot_laws.specs.Sizes.{InRange, hash1, hash2, frameSize};
-ghost use Rattle.slot_laws.specs.Order.{unrolled, semis, heading, ordered, swapped, mixed, dataOf, Data};
+ghost use Rattle.slot_laws.specs.Order.{unrolled, semis, heading, ordered, swapped, requestSwapped, dataOf, Data};
 
 // The frame's semi-octets, byte order reversed (A.16, A.17).
 pub fn unroll(frame: &[u8], out: &mut [u8])
@@ -72,9 +72,9 @@ pub fn swap(s: &mut [u8], i: usize, j: usize)
 }
 
 // The swap of the request's bits, which is its own inverse.
-pub fn mix(size: usize, mode: usize, s: &mut [u8])
+pub fn swap_request(size: usize, mode: usize, s: &mut [u8])
     requires { ⌜ (InRange size mode) × Data size mode (now s) ⌝ }
-    ensures { λ _. ⌜ now (s .exit) ≡ mixed size mode (now (s .entry)) ⌝ }
+    ensures { λ _. ⌜ now (s .exit) ≡ requestSwapped size mode (now (s .entry)) ⌝ }
 {
     let count = slot_sizes::word_count(size);
     swap(
@@ -103,5 +103,5 @@ pub fn arrange(size: usize, mode: usize, request: u32, frame: &[u8], out: &mut [
     let h = 2 * slot_sizes::first_hash_size(size) + 2 * slot_sizes::second_hash_size(size, mode);
     unroll(frame, &mut out[h..]);
     put_in_front(size, mode, request, out);
-    mix(size, mode, out);
+    swap_request(size, mode, out);
 }

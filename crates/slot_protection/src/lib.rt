@@ -62,8 +62,8 @@ fn protect_sized(
     let e = 2 * slot_sizes::first_hash_size(size)
         + 2 * slot_sizes::second_hash_size(size, mode)
         + 2 * n;
-    let mut info = [0u8; 800];
-    slot_ordering::arrange(size, mode, request, frame, &mut info[..e]);
-    slot_interleaving::write_slot(size, mode, &info[..e], slot);
+    let mut message = [0u8; 800];
+    slot_ordering::arrange(size, mode, request, frame, &mut message[..e]);
+    slot_interleaving::write_slot(size, mode, &message[..e], slot);
     Protection::Protected
 }

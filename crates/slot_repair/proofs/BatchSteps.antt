@@ -19,7 +19,7 @@ use Rattle.laws.proofs.Tab.{total-same, total-next, total-none, total-up, below
 use Rattle.laws.proofs.Spread.{share}
 use Rattle.code_word_laws.specs.Word.{Fits, apart, distance}
 use Rattle.code_word_laws.specs.Make.{coded}
-use Rattle.code_word_laws.specs.Correct.{Near, Mended, lengthAt, startAt, wordAt, Batch, AllCorrected}
+use Rattle.code_word_laws.specs.Correct.{Near, WordCorrected, lengthAt, startAt, wordAt, Batch, AllCorrected}
 use Rattle.code_word.specs.Correct.{CorrectsEach}
 use Rattle.code_word_laws.proofs.Coded.{coded-only}
 use Rattle.slot_laws.specs.Sizes.{InRange, words, wordLength, dataLength}
@@ -157,7 +157,7 @@ pub record Answered (size mode : ℕ) (places all counts : List ℕ) : Type 0 wh
   pub long : length all ≡ 2 * size
   pub below : Below 16 all
   pub many : length counts ≡ words size
-  pub each : (i : ℕ) → i < words size → Mended mode (wordFrom size mode places i) (piece (wordLength size) all i) (getD counts i 0)
+  pub each : (i : ℕ) → i < words size → WordCorrected mode (wordFrom size mode places i) (piece (wordLength size) all i) (getD counts i 0)
 
 module _ (size mode : ℕ) (places old room : List ℕ) (range : InRange size mode) (arrived : AllArrived size mode places old)
     (some : length room ≡ words size) where
@@ -180,17 +180,17 @@ module _ (size mode : ℕ) (places old room : List ℕ) (range : InRange size mo
   each-answered new counts (suc (suc n)) c = absurd c
 
   module _ (new counts : List ℕ) (corrected : AllCorrected mode old room new counts) where
-    each-mended : (i : ℕ) → i < words size → Mended mode (wordFrom size mode places i) (piece (wordLength size) new i) (getD counts i 0)
-    each-mended i l =
+    each-corrected : (i : ℕ) → i < words size → WordCorrected mode (wordFrom size mode places i) (piece (wordLength size) new i) (getD counts i 0)
+    each-corrected i l =
         let m = corrected .as-many ∙ some in
         let a = word-at size i (length counts) old (range .size-from) l (arrived .long) m ∙ arrived .each i l in
         let b = word-at size i (length counts) new (range .size-from) l (corrected .as-long ∙ arrived .long) m in
         rw (a, b) at (corrected .each i (omega (arith, m)))
 
-    mended-below : (i : ℕ) → i < words size → (b : Bool) → ltb (getD counts i 0) mode ≡ b → Below 16 (piece (wordLength size) new i)
-    mended-below i l true e = below-of (piece (wordLength size) new i) (each-mended i l .found (ltb-true (getD counts i 0) mode e) .semi-octets)
-    mended-below i l false e =
-        let k = each-mended i l .kept (ltb-false (getD counts i 0) mode e) ∙ sym (arrived .each i l) in
+    corrected-below : (i : ℕ) → i < words size → (b : Bool) → ltb (getD counts i 0) mode ≡ b → Below 16 (piece (wordLength size) new i)
+    corrected-below i l true e = below-of (piece (wordLength size) new i) (each-corrected i l .found (ltb-true (getD counts i 0) mode e) .semi-octets)
+    corrected-below i l false e =
+        let k = each-corrected i l .kept (ltb-false (getD counts i 0) mode e) ∙ sym (arrived .each i l) in
         rw k (below-piece 16 (wordLength size) old i (omega arith) (arrived .below))
 
   pub answered : (new counts : List ℕ) (number : ℕ) → CorrectsEach mode old room new counts number → Answered size mode places new counts
@@ -204,9 +204,9 @@ module _ (size mode : ℕ) (places old room : List ℕ) (range : InRange size mo
         long = l;
         below =
             subst (λ (x : List ℕ). Below 16 x) (sym j)
-            (below-joined 16 (piece (wordLength size) new) (words size) (omega arith) (λ i k. mended-below new counts a i k (ltb (getD counts i 0) mode) refl));
+            (below-joined 16 (piece (wordLength size) new) (words size) (omega arith) (λ i k. corrected-below new counts a i k (ltb (getD counts i 0) mode) refl));
         many = a .as-many ∙ some;
-        each = λ i k. each-mended new counts a i k;
+        each = λ i k. each-corrected new counts a i k;
       }
 
 -- ---- the data of a word put where they belong
@@ -288,8 +288,8 @@ module _ (size mode i at n e : ℕ) (old : List ℕ) (range : InRange size mode)
           few-next j h true t = rw (eqb-true j i t) (rw c at l)
           few-next j h false t = let d : (j ≡ i → ⊥) = eqb-false j i t in g .few j (omega arith)
 
-pub gathered-first : (size mode : ℕ) (all counts info : List ℕ) → Data size mode info → GatheredTo size mode all counts info 0 0
-gathered-first size mode all counts info d = record {
+pub gathered-first : (size mode : ℕ) (all counts message : List ℕ) → Data size mode message → GatheredTo size mode all counts message 0 0
+gathered-first size mode all counts message d = record {
   given = d;
   each = λ j h. absurd (omega arith);
   few = λ j h. absurd (omega arith);
@@ -299,16 +299,16 @@ gathered-first size mode all counts info d = record {
 -- ---- the slot's answer
 
 -- a valid word is the code word over its data
-code-of : (size mode i : ℕ) (slot info word : List ℕ) → InRange size mode → i < words size → Near mode (wordIn size mode slot i) word
-    → dataWord size mode info i ≡ drop (2 * (mode - 1)) word → codeWord size mode info i ≡ word
+code-of : (size mode i : ℕ) (slot message word : List ℕ) → InRange size mode → i < words size → Near mode (wordIn size mode slot i) word
+    → dataWord size mode message i ≡ drop (2 * (mode - 1)) word → codeWord size mode message i ≡ word
 unfolding codeWord
-code-of size mode i slot info word r l n h =
+code-of size mode i slot message word r l n h =
     let long : length word ≡ wordLength size i = n .long ∙ words-in size mode slot r .long i l in
     let d : 2 * mode - 1 - 1 ≡ 2 * (mode - 1) = omega arith in
     let f = checks-fit size mode i r l in
     let t = length-high size i (r .size-from) in
     let k = length-drop (2 * mode - 1 - 1) word in
-    let w : dataWord size mode info i ≡ drop (2 * mode - 1 - 1) word = rw d h in
+    let w : dataWord size mode message i ≡ drop (2 * mode - 1 - 1) word = rw d h in
     let s = semi-octets-of (drop (2 * mode - 1 - 1) word) (below-drop 16 (2 * mode - 1 - 1) word (below-of word (n .semi-octets))) in
     ap (coded (distance mode)) w
     ∙ sym (coded-only (distance mode) (drop (2 * mode - 1 - 1) word) word (omega (arith, r .mode-from)) (omega (arith, long)) s
@@ -317,25 +317,25 @@ code-of size mode i slot info word r l n h =
 -- .. of the slot that was unpacked
 each-of : (size mode : ℕ) (slot places all counts : List ℕ) → InRange size mode → Answered size mode places all counts
     → length slot ≡ size → places ≡ unpacked slot
-    → (j : ℕ) → j < words size → Mended mode (wordIn size mode slot j) (piece (wordLength size) all j) (getD counts j 0)
+    → (j : ℕ) → j < words size → WordCorrected mode (wordIn size mode slot j) (piece (wordLength size) all j) (getD counts j 0)
 each-of size mode slot places all counts r a e p j l =
-    subst (λ (w : List ℕ). Mended mode w (piece (wordLength size) all j) (getD counts j 0)) (word-from size mode slot places j (r .size-from) e p) (a .each j l)
+    subst (λ (w : List ℕ). WordCorrected mode w (piece (wordLength size) all j) (getD counts j 0)) (word-from size mode slot places j (r .size-from) e p) (a .each j l)
 
-pub repaired : (size mode : ℕ) (places all counts info : List ℕ) (r : Outcome) → InRange size mode → Answered size mode places all counts
-    → IsGathered size mode all counts info r → IsRepairFrom size mode places info r
-repaired size mode places all counts info (Repaired n) r a g slot e p =
+pub repaired : (size mode : ℕ) (places all counts message : List ℕ) (r : Outcome) → InRange size mode → Answered size mode places all counts
+    → IsGathered size mode all counts message r → IsRepairFrom size mode places message r
+repaired size mode places all counts message (Repaired n) r a g slot e p =
     let each = each-of size mode slot places all counts r a e p in
     let near : (j : ℕ) → j < words size → Near mode (wordIn size mode slot j) (piece (wordLength size) all j) = λ j l. each j l .found (g .few j l) in
-    let code : (j : ℕ) → j < words size → codeWord size mode info j ≡ piece (wordLength size) all j =
-    λ j l. code-of size mode j slot info (piece (wordLength size) all j) r l (near j l) (g .each j l) in
+    let code : (j : ℕ) → j < words size → codeWord size mode message j ≡ piece (wordLength size) all j =
+    λ j l. code-of size mode j slot message (piece (wordLength size) all j) r l (near j l) (g .each j l) in
     record {
       given = g .given;
       near = λ j l. rw (code j l) (near j l);
       counted =
           g .counted
-          ∙ total-same (λ j. getD counts j 0) (λ j. apart (wordIn size mode slot j) (codeWord size mode info j)) (words size)
+          ∙ total-same (λ j. getD counts j 0) (λ j. apart (wordIn size mode slot j) (codeWord size mode message j)) (words size)
           (λ j l. each j l .counted (g .few j l) ∙ ap (apart (wordIn size mode slot j)) (sym (code j l)));
     }
-repaired size mode places all counts info Beyond r a g slot e p =
+repaired size mode places all counts message Beyond r a g slot e p =
     let each = each-of size mode slot places all counts r a e p in
     record { word = g .word; inside = g .inside; none = each (g .word) (g .inside) .none (g .none) }

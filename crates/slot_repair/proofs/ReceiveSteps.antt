@@ -45,23 +45,23 @@ arrived-last size mode places i n k w e l f = filled-last (arrived size mode pla
 
 -- ---- all words corrected
 
--- the slot with the data that were mended is the corrected one, and the count is that of its changes
-module _ (size mode : ℕ) (slot info : List ℕ) (count : ℕ) (range : InRange size mode) (mended : MendedTo size mode slot info (words size) count) where
-  pub corrected-slot : Corrected size mode slot (slotWith size mode info)
+-- the slot with the data that were corrected is the corrected one, and the count is that of its changes
+module _ (size mode : ℕ) (slot message : List ℕ) (count : ℕ) (range : InRange size mode) (corrected : MendedTo size mode slot message (words size) count) where
+  pub corrected-slot : Corrected size mode slot (slotWith size mode message)
   corrected-slot = record {
-    bytes = bytes-with size mode info range (mended .given);
-    near = λ i l. rw (word-slot size mode info range (mended .given) i l) (mended .near i l);
+    bytes = bytes-with size mode message range (corrected .given);
+    near = λ i l. rw (word-slot size mode message range (corrected .given) i l) (corrected .near i l);
   }
 
-  changed-words : changes size slot (slotWith size mode info) ≡ total (λ j. apart (wordIn size mode slot j) (wordIn size mode (slotWith size mode info) j)) (words size)
+  changed-words : changes size slot (slotWith size mode message) ≡ total (λ j. apart (wordIn size mode slot j) (wordIn size mode (slotWith size mode message) j)) (words size)
   unfolding wordIn
-  changed-words = changes-words size (signature mode) slot (slotWith size mode info) (range .size-from)
+  changed-words = changes-words size (signature mode) slot (slotWith size mode message) (range .size-from)
 
-  pub count-changes : count ≡ changes size slot (slotWith size mode info)
+  pub count-changes : count ≡ changes size slot (slotWith size mode message)
   count-changes =
-      mended .counted
-      ∙ total-same (λ j. apart (wordIn size mode slot j) (codeWord size mode info j)) (λ j. apart (wordIn size mode slot j) (wordIn size mode (slotWith size mode info) j)) (words size)
-      (λ j l. ap (apart (wordIn size mode slot j)) (sym (word-slot size mode info range (mended .given) j l)))
+      corrected .counted
+      ∙ total-same (λ j. apart (wordIn size mode slot j) (codeWord size mode message j)) (λ j. apart (wordIn size mode slot j) (wordIn size mode (slotWith size mode message) j)) (words size)
+      (λ j l. ap (apart (wordIn size mode slot j)) (sym (word-slot size mode message range (corrected .given) j l)))
       ∙ sym changed-words
 
 -- ---- the slot's answer
@@ -77,23 +77,23 @@ same-apart : (v w : List ℕ) → v ≡ w → apart v w ≡ 0
 same-apart v w e = let h = apart-front 0 v w e in omega arith
 
 -- a slot of clean words is its own correction
-pub clean-slot : (size mode : ℕ) (slot places info : List ℕ) → InRange size mode → length slot ≡ size → places ≡ unpacked slot → Data size mode info
-    → AllClean size mode places info (words size) → MendedTo size mode slot info (words size) 0
-clean-slot size mode slot places info r l p d a = record {
+pub clean-slot : (size mode : ℕ) (slot places message : List ℕ) → InRange size mode → length slot ≡ size → places ≡ unpacked slot → Data size mode message
+    → AllClean size mode places message (words size) → MendedTo size mode slot message (words size) 0
+clean-slot size mode slot places message r l p d a = record {
   given = d;
   near = λ j h.
       let e = same j h in
-      let c = code-word size mode info r d j in
+      let c = code-word size mode message r d j in
       record {
         semi-octets = c .semi-octets;
         long = ap (λ (x : List ℕ). length x) (sym e);
         valid = c .valid;
-        near = let z = same-apart (wordIn size mode slot j) (codeWord size mode info j) e in omega (arith, r .mode-from);
+        near = let z = same-apart (wordIn size mode slot j) (codeWord size mode message j) e in omega (arith, r .mode-from);
       };
   counted =
-      sym (total-nothing (λ j. apart (wordIn size mode slot j) (codeWord size mode info j)) (words size)
-      (λ j h. same-apart (wordIn size mode slot j) (codeWord size mode info j) (same j h)));
+      sym (total-nothing (λ j. apart (wordIn size mode slot j) (codeWord size mode message j)) (words size)
+      (λ j h. same-apart (wordIn size mode slot j) (codeWord size mode message j) (same j h)));
 }
   where
-    same : (j : ℕ) → j < words size → wordIn size mode slot j ≡ codeWord size mode info j
+    same : (j : ℕ) → j < words size → wordIn size mode slot j ≡ codeWord size mode message j
     same j h = sym (word-from size mode slot places j (r .size-from) l p) ∙ sym (a j h)

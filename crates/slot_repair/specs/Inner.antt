@@ -17,9 +17,9 @@ use Rattle.slot_repair.specs.declared.Outcome.the-variants.{Repaired, Be
 use Rattle.slot_clean.specs.Inner.{unpacked, wordFrom}
 
 -- the first n words have a count, the sum of them is the count, and the data of these words stand where they belong
-pub record GatheredTo (size mode : ℕ) (all counts info : List ℕ) (n count : ℕ) : Type 0 where
-  pub given : Data size mode info
-  pub each : (j : ℕ) → j < n → dataWord size mode info j ≡ drop (2 * (mode - 1)) (piece (wordLength size) all j)
+pub record GatheredTo (size mode : ℕ) (all counts message : List ℕ) (n count : ℕ) : Type 0 where
+  pub given : Data size mode message
+  pub each : (j : ℕ) → j < n → dataWord size mode message j ≡ drop (2 * (mode - 1)) (piece (wordLength size) all j)
   pub few : (j : ℕ) → j < n → getD counts j 0 < mode
   pub counted : count ≡ total (λ j. getD counts j 0) n
 
@@ -30,18 +30,18 @@ pub record SomeNone (size mode : ℕ) (counts : List ℕ) : Type 0 where
   pub none : mode ≤ getD counts word 0
 
 abbrev pub IsGathered : ℕ → ℕ → List ℕ → List ℕ → List ℕ → Outcome → Type 0
-IsGathered size mode all counts info (Repaired n) = GatheredTo size mode all counts info (words size) n
-IsGathered size mode all counts info Beyond = SomeNone size mode counts
+IsGathered size mode all counts message (Repaired n) = GatheredTo size mode all counts message (words size) n
+IsGathered size mode all counts message Beyond = SomeNone size mode counts
 
 -- the first n words were corrected, and the data hold them
-pub record MendedTo (size mode : ℕ) (slot info : List ℕ) (n count : ℕ) : Type 0 where
-  pub given : Data size mode info
-  pub near : (j : ℕ) → j < n → Near mode (wordIn size mode slot j) (codeWord size mode info j)
-  pub counted : count ≡ total (λ j. apart (wordIn size mode slot j) (codeWord size mode info j)) n
+pub record MendedTo (size mode : ℕ) (slot message : List ℕ) (n count : ℕ) : Type 0 where
+  pub given : Data size mode message
+  pub near : (j : ℕ) → j < n → Near mode (wordIn size mode slot j) (codeWord size mode message j)
+  pub counted : count ≡ total (λ j. apart (wordIn size mode slot j) (codeWord size mode message j)) n
 
 abbrev pub IsRepair : ℕ → ℕ → List ℕ → List ℕ → Outcome → Type 0
-IsRepair size mode slot info (Repaired n) = MendedTo size mode slot info (words size) n
-IsRepair size mode slot info Beyond = SomeBeyond size mode slot
+IsRepair size mode slot message (Repaired n) = MendedTo size mode slot message (words size) n
+IsRepair size mode slot message Beyond = SomeBeyond size mode slot
 
 -- every word as received, one after the other
 pub record AllArrived (size mode : ℕ) (places all : List ℕ) : Type 0 where
@@ -51,4 +51,4 @@ pub record AllArrived (size mode : ℕ) (places all : List ℕ) : Type 0 where
 
 -- the answer for the slot of these semi-octets
 abbrev pub IsRepairFrom : ℕ → ℕ → List ℕ → List ℕ → Outcome → Type 0
-IsRepairFrom size mode places info r = (slot : List ℕ) → length slot ≡ size → places ≡ unpacked slot → IsRepair size mode slot info r
+IsRepairFrom size mode places message r = (slot : List ℕ) → length slot ≡ size → places ≡ unpacked slot → IsRepair size mode slot message r

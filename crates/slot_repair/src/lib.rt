@@ -48,9 +48,9 @@ fn receive_all(size: usize, mode: usize, places: &[u8], all: &mut [u8])
 }
 
 // The data of every word put where they belong, and the counts added; or a word has no count.
-fn gather(size: usize, mode: usize, all: &[u8], counts: &[u8], info: &mut [u8]) -> Outcome
-    requires { ⌜ (InRange size mode) × (length (now all) ≡ 2 * size) × (Below 16 (now all)) × (length (now counts) ≡ words size) × (Data size mode (now info)) ⌝ }
-    ensures { λ r. ⌜ IsGathered size mode (now (all .entry)) (now (counts .entry)) (now (info .exit)) r ⌝ }
+fn gather(size: usize, mode: usize, all: &[u8], counts: &[u8], message: &mut [u8]) -> Outcome
+    requires { ⌜ (InRange size mode) × (length (now all) ≡ 2 * size) × (Below 16 (now all)) × (length (now counts) ≡ words size) × (Data size mode (now message)) ⌝ }
+    ensures { λ r. ⌜ IsGathered size mode (now (all .entry)) (now (counts .entry)) (now (message .exit)) r ⌝ }
 {
     let checks = 2 * (mode - 1);
     let mut from: usize = 0;
@@ -64,7 +64,7 @@ fn gather(size: usize, mode: usize, all: &[u8], counts: &[u8], info: &mut [u8]) 
         }
         let long = slot_sizes::word_length(size, counts.len(), i);
         let e = at + (long - checks);
-        slot_interleaving::copy_part(all, from + checks, &mut info[at..e]);
+        slot_interleaving::copy_part(all, from + checks, &mut message[at..e]);
         sum = sum + n as u16;
         from = from + long;
         at = e;
@@ -74,49 +74,49 @@ fn gather(size: usize, mode: usize, all: &[u8], counts: &[u8], info: &mut [u8]) 
 }
 
 // Every word corrected, with room lent for the words and for a count a word.
-fn mend_with(
+fn correct_with(
     size: usize,
     mode: usize,
     places: &[u8],
     all: &mut [u8],
     counts: &mut [u8],
-    info: &mut [u8],
+    message: &mut [u8],
 ) -> Outcome
-    requires { ⌜ (InRange size mode) × (length (now places) ≡ 2 * size) × (Below 16 (now places)) × (length (now all) ≡ 2 * size) × (length (now counts) ≡ words size) × (Data size mode (now info)) ⌝ }
-    ensures { λ r. ⌜ IsRepairFrom size mode (now (places .entry)) (now (info .exit)) r ⌝ }
+    requires { ⌜ (InRange size mode) × (length (now places) ≡ 2 * size) × (Below 16 (now places)) × (length (now all) ≡ 2 * size) × (length (now counts) ≡ words size) × (Data size mode (now message)) ⌝ }
+    ensures { λ r. ⌜ IsRepairFrom size mode (now (places .entry)) (now (message .exit)) r ⌝ }
 {
     receive_all(size, mode, places, all);
     code_word::correct_each(all, mode as u32, counts);
-    gather(size, mode, all, counts, info)
+    gather(size, mode, all, counts, message)
 }
 
 // Every word corrected.
-fn repair(size: usize, mode: usize, places: &[u8], info: &mut [u8]) -> Outcome
-    requires { ⌜ (InRange size mode) × (length (now places) ≡ 2 * size) × (Below 16 (now places)) × (Data size mode (now info)) ⌝ }
-    ensures { λ r. ⌜ IsRepairFrom size mode (now (places .entry)) (now (info .exit)) r ⌝ }
+fn repair(size: usize, mode: usize, places: &[u8], message: &mut [u8]) -> Outcome
+    requires { ⌜ (InRange size mode) × (length (now places) ≡ 2 * size) × (Below 16 (now places)) × (Data size mode (now message)) ⌝ }
+    ensures { λ r. ⌜ IsRepairFrom size mode (now (places .entry)) (now (message .exit)) r ⌝ }
 {
     let count = slot_sizes::word_count(size);
     let mut all = [0u8; 800];
     let mut counts = [0u8; 54];
-    mend_with(
+    correct_with(
         size,
         mode,
         places,
         &mut all[..2 * size],
         &mut counts[..count],
-        info,
+        message,
     )
 }
 
 // The data of the slot, with every word corrected.
-pub fn mend_all(size: usize, mode: usize, slot: &[u8], info: &mut [u8]) -> Outcome
-    requires { ⌜ (InRange size mode) × (length (now slot) ≡ size) × (Data size mode (now info)) ⌝ }
-    ensures { λ r. ⌜ IsRepair size mode (now (slot .entry)) (now (info .exit)) r ⌝ }
+pub fn correct_slot(size: usize, mode: usize, slot: &[u8], message: &mut [u8]) -> Outcome
+    requires { ⌜ (InRange size mode) × (length (now slot) ≡ size) × (Data size mode (now message)) ⌝ }
+    ensures { λ r. ⌜ IsRepair size mode (now (slot .entry)) (now (message .exit)) r ⌝ }
 {
     let mut places = [0u8; 800];
     slot_clean::unpack(slot, &mut places[..2 * size]);
-    if slot_clean::clean(size, mode, &places[..2 * size], info) {
+    if slot_clean::read_clean(size, mode, &places[..2 * size], message) {
         return Outcome::Repaired(0);
     }
-    repair(size, mode, &places[..2 * size], info)
+    repair(size, mode, &places[..2 * size], message)
 }

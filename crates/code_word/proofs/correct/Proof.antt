@@ -27,8 +27,8 @@ cast-most c =
     let f : Fits (c .before .before .before .before .before .before .args .mode) (length (c .before .before .before .before .before .before .args .word .now)) = told-yes _ (c .before .before .before .before .fits2 .result) (c .before .before .before .before .fits2 .ensures) (c .before .before .before .if1 .left) in
     record { fits = omega (arith, f .mode-to) }
 
-mend-requires : tie.Need-mend-requires
-mend-requires c κs =
+correct-word-requires : tie.Need-correct-word-requires
+correct-word-requires c κs =
     let d = c .before .before .before in
     let a = d .before .before .before .before .before .before .args in
     let f : Fits (a .mode) (length (a .word .now)) = told-yes _ (d .before .before .before .before .fits2 .result) (d .before .before .before .before .fits2 .ensures) (d .before .before .before .if1 .left) in
@@ -36,7 +36,7 @@ mend-requires c κs =
 
 returns-3 : tie.Need-returns-3
 returns-3 c =
-    let m = c .before .before .before .mend in
+    let m = c .before .before .before .correct-word in
     let d = c .before .before .before .before .before .before .before in
     let a = d .before .before .before .before .before .before .args in
     let f : Fits (a .mode) (length (a .word .now)) = told-yes _ (d .before .before .before .before .fits2 .result) (d .before .before .before .before .fits2 .ensures) (d .before .before .before .if1 .left) in
@@ -44,7 +44,7 @@ returns-3 c =
 
 returns-4 : tie.Need-returns-4
 returns-4 c =
-    let m = c .before .before .before .mend in
+    let m = c .before .before .before .correct-word in
     let d = c .before .before .before .before .before .before .before in
     let a = d .before .before .before .before .before .before .args in
     let f : Fits (a .mode) (length (a .word .now)) = told-yes _ (d .before .before .before .before .fits2 .result) (d .before .before .before .before .fits2 .ensures) (d .before .before .before .if1 .left) in
@@ -55,4 +55,4 @@ correct-spec =
     tie.close
     (tie.spec
     (λ c κs. search needs) returns (λ c κs. search needs) (λ c. search needs) returns-2 sub-most cast-most
-    (λ c κs. search needs) mend-requires (λ c. search needs) returns-3 (λ c. search needs) returns-4)
+    (λ c κs. search needs) correct-word-requires (λ c. search needs) returns-3 (λ c. search needs) returns-4)

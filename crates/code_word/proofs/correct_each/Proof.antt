@@ -58,8 +58,8 @@ cast-most c =
     let v = g .before .before in
     record { fits = omega (arith, told-yes _ (v .fits2 .result) (v .fits2 .ensures) (g .before .if2 .left) .mode-to) }
 
-mend-each-requires : tie.Need-mend-each-requires
-mend-each-requires c κs =
+correct-words-requires : tie.Need-correct-words-requires
+correct-words-requires c κs =
     let d = c .before .before .before .before in
     let g = d .before .before .before .before in
     let v = g .before .before in
@@ -75,7 +75,7 @@ mend-each-requires c κs =
 
 returns-5 : tie.Need-returns-5
 returns-5 c =
-    let m = c .before .before .before .before .mend-each in
+    let m = c .before .before .before .before .correct-words in
     let d = c .before .before .before .before .before .before .before .before .before in
     let g = d .before .before .before .before in
     let v = g .before .before in
@@ -91,4 +91,4 @@ correct-each-spec =
     (tie.spec
     returns div-long rem-over (λ c κs. search needs) returns-2 fits-longer-requires returns-3
     (λ c κs. search needs) (λ c. search needs) returns-4 sub-most cast-most (λ c κs. search needs)
-    mend-each-requires (λ c. search needs) (λ c. search needs) returns-5)
+    correct-words-requires (λ c. search needs) (λ c. search needs) returns-5)

@@ -48,8 +48,8 @@ divide-requires c κs =
     let f : Fits (a .mode) (length (a .word .now)) = told-yes _ (e .before .fits2 .result) (e .before .fits2 .ensures) (e .if1 .left) in
     (omega (arith, f .checks), told-yes _ (d .before .semi-octets .result) (d .before .semi-octets .ensures) (d .if2 .left))
 
-pour-requires : tie.Need-pour-requires
-pour-requires c κs =
+put-checks-requires : tie.Need-put-checks-requires
+put-checks-requires c κs =
     let e = c .before .before .before .before .before .before .before .before in
     let a = e .before .before .before .args in
     let f : Fits (a .mode) (length (a .word .now)) = told-yes _ (e .before .fits2 .result) (e .before .fits2 .ensures) (e .if1 .left) in
@@ -64,13 +64,13 @@ returns-3 c =
     let e = d .before .before .before in
     let a = e .before .before .before .args in
     let f : Fits (a .mode) (length (a .word .now)) = told-yes _ (e .before .fits2 .result) (e .before .fits2 .ensures) (e .if1 .left) in
-    encoding.made (a .mode) (2 * a .mode - 2) (v .divide .result) (r .rows .result) (a .word .now) (o .pour .last .0)
+    encoding.made (a .mode) (2 * a .mode - 2) (v .divide .result) (r .rows .result) (a .word .now) (o .put-checks .last .0)
     (f .mode-from) (f .mode-to) (omega arith) (omega (arith, f .checks)) (f .most) (r .rows .ensures)
-    (told-yes _ (d .before .semi-octets .result) (d .before .semi-octets .ensures) (d .if2 .left)) (v .divide .ensures) (o .pour .ensures)
+    (told-yes _ (d .before .semi-octets .result) (d .before .semi-octets .ensures) (d .if2 .left)) (v .divide .ensures) (o .put-checks .ensures)
 
 pub make-spec : {M : Type 1} → statement M
 make-spec =
     tie.close
     (tie.spec
     (λ c κs. search needs) returns (λ c. search needs) sub-n semi-octets-requires (λ c. search needs)
-    returns-2 rows-requires divide-requires pour-requires (λ c. search needs) returns-3)
+    returns-2 rows-requires divide-requires put-checks-requires (λ c. search needs) returns-3)

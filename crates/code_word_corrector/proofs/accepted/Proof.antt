@@ -1,7 +1,7 @@
 -- `code_word_corrector::accepted` meets its contract. Assumes nothing.
 use native.Mathlib.Omega.{arith}
 use borrow.Author.Needs.{needs}
-use Rattle.code_word_laws.proofs.Mend.{accepts-not, accepts-clear}
+use Rattle.code_word_laws.proofs.Correcting.{accepts-not, accepts-clear}
 use Rattle.code_word_corrector.proofs.accepted.Statement.{statement}
 use Rattle.code_word_corrector.proofs.accepted.Tie as tie
 
@@ -13,7 +13,7 @@ returns c =
 returns-2 : tie.Need-returns-2
 returns-2 c =
     let a = c .before .before .before .before in
-    accepts-clear (a .args .most) (a .args .count) (a .args .word .now) (c .before .spectrum .result) (a .pre .2) (omega arith) (c .before .spectrum .ensures) (c .clear .ensures)
+    accepts-clear (a .args .most) (a .args .count) (a .args .word .now) (c .before .syndromes .result) (a .pre .2) (omega arith) (c .before .syndromes .ensures) (c .clear .ensures)
 
 pub accepted-spec : {M : Type 1} → statement M
 accepted-spec =

@@ -18,17 +18,17 @@ returns : tie.Need-returns
 returns c =
     let s = c .before .before .before .before .before .before .before .before .before in
     let a = s .args in
-    let m = c .before .before .before .before .mend-all in
+    let m = c .before .before .before .before .correct-slot in
     let t : Taken (a .size) (a .mode) (a .slot .now) (a .frame .now) = record
     { range = s .pre .0; lengths = record { frame-long = s .pre .3; slot-long = s .pre .1 }; bytes = λ i. c .before .before .before .before .before .before .before .before .shared-slice-known .given i .fits } in
     let y : SomeBeyond (a .size) (a .mode) (a .slot .now) = rw (c .enum-told .given .1) at (m .ensures) in
     record { taken = t; beyond = y; refused = record { kept = refl; no-request = refl; no-count = refl } }
 
-mix-requires : tie.Need-mix-requires
-mix-requires c κs =
+swap-request-requires : tie.Need-swap-request-requires
+swap-request-requires c κs =
     let s = c .before .before .before .before .before .before .before .before .before .before .before in
     let a = s .args in
-    let m = c .before .before .before .before .before .before .mend-all in
+    let m = c .before .before .before .before .before .before .correct-slot in
     let k = c .before .before .count .given in
     let x : MendedTo (a .size) (a .mode) (a .slot .now) (m .last .1 .1 .1 .0) (words (a .size)) (k .0 .0) = rw (k .1) at (m .ensures) in
     (s .pre .0, x .given)
@@ -40,10 +40,10 @@ deliver-requires : tie.Need-deliver-requires
 deliver-requires c κs =
     let s = c .before .before .before .before .before .before .before .before .before .before .before .before .before .before .before .before .before .before in
     let a = s .args in
-    let m = c .before .before .before .before .before .before .before .before .before .before .before .before .before .mend-all in
+    let m = c .before .before .before .before .before .before .before .before .before .before .before .before .before .correct-slot in
     let k = c .before .before .before .before .before .before .before .before .before .count .given in
     let x : MendedTo (a .size) (a .mode) (a .slot .now) (m .last .1 .1 .1 .0) (words (a .size)) (k .0 .0) = rw (k .1) at (m .ensures) in
-    let z = c .before .before .before .before .before .before .mix in
+    let z = c .before .before .before .before .before .before .swap-request in
     let f = c .before .before .before .first-hash-size in
     (s .pre .0, request-is (a .size) (f .result) (z .last .1 .1 .0) (f .ensures .0), data-unmixed (a .size) (a .mode) (m .last .1 .1 .1 .0) (z .last .1 .1 .0) (x .given) (z .ensures), s .pre .3)
 
@@ -51,10 +51,10 @@ returns-2 : tie.Need-returns-2
 returns-2 c =
     let s = c .before .before .before .before .before .before .before .before .before .before .before .before .before .before .before .before .before .before .before .before .before .before in
     let a = s .args in
-    let m = c .before .before .before .before .before .before .before .before .before .before .before .before .before .before .before .before .before .mend-all in
+    let m = c .before .before .before .before .before .before .before .before .before .before .before .before .before .before .before .before .before .correct-slot in
     let k = c .before .before .before .before .before .before .before .before .before .before .before .before .before .count .given in
     let x : MendedTo (a .size) (a .mode) (a .slot .now) (m .last .1 .1 .1 .0) (words (a .size)) (k .0 .0) = rw (k .1) at (m .ensures) in
-    let z = c .before .before .before .before .before .before .before .before .before .before .mix in
+    let z = c .before .before .before .before .before .before .before .before .before .before .swap-request in
     let t : Taken (a .size) (a .mode) (a .slot .now) (a .frame .now) = record
     { range = s .pre .0; lengths = record { frame-long = s .pre .3; slot-long = s .pre .1 }; bytes = λ i. c .before .before .before .before .before .before .before .before .before .before .before .before .before .before .before .before .before .before .before .before .before .shared-slice-known .given i .fits } in
     let d = c .before .before .before .deliver in
@@ -65,10 +65,10 @@ returns-3 : tie.Need-returns-3
 returns-3 c =
     let s = c .before .before .before .before .before .before .before .before .before .before .before .before .before .before .before .before .before .before .before .before .before .before in
     let a = s .args in
-    let m = c .before .before .before .before .before .before .before .before .before .before .before .before .before .before .before .before .before .mend-all in
+    let m = c .before .before .before .before .before .before .before .before .before .before .before .before .before .before .before .before .before .correct-slot in
     let k = c .before .before .before .before .before .before .before .before .before .before .before .before .before .count .given in
     let x : MendedTo (a .size) (a .mode) (a .slot .now) (m .last .1 .1 .1 .0) (words (a .size)) (k .0 .0) = rw (k .1) at (m .ensures) in
-    let z = c .before .before .before .before .before .before .before .before .before .before .mix in
+    let z = c .before .before .before .before .before .before .before .before .before .before .swap-request in
     let t : Taken (a .size) (a .mode) (a .slot .now) (a .frame .now) = record
     { range = s .pre .0; lengths = record { frame-long = s .pre .3; slot-long = s .pre .1 }; bytes = λ i. c .before .before .before .before .before .before .before .before .before .before .before .before .before .before .before .before .before .before .before .before .before .shared-slice-known .given i .fits } in
     let d = c .before .before .before .deliver in
@@ -80,7 +80,7 @@ pub judge-spec : {M : Type 1} → statement M
 judge-spec =
     tie.close
     (tie.spec
-    (λ c κs. search needs) (λ c. search needs) (λ c. search needs) (λ c. search needs) returns mix-requires
+    (λ c κs. search needs) (λ c. search needs) (λ c. search needs) (λ c. search needs) returns swap-request-requires
     (λ c κs. search needs) (λ c. search needs) (λ c. search needs) (λ c. search needs) cast-deliver
     deliver-requires (λ c. search needs) (λ c. search needs) returns-2 (λ c. search needs) (λ c. search needs)
     returns-3)

@@ -22,7 +22,7 @@ roll-requires c κs =
     let s = c .before .before .before .before .before .before .before .before in
     let f = c .before .before .before .before .before .first-hash-size in
     let g = c .before .before .before .before .second-hash-size in
-    let t = s .args .info .now in
+    let t = s .args .message .now in
     let h = 2 * f .result + 2 * g .result in
     let w = frame-fits (s .args .size) (s .args .mode) (s .pre .0) in (
       rest-is _ h t (omega (arith, s .pre .2 .long, s .pre .3, f .ensures .0, g .ensures .0)),
@@ -42,7 +42,7 @@ returns-2 c =
     let h = 2 * f .result + 2 * g .result in
     let k : h ≡ 2 * hash1 (a .size) + 2 * hash2 (a .size) (a .mode) = omega (arith, f .ensures .0, g .ensures .0) in (
       m .ensures .holds (not-false (m .result) e),
-      delivered-frame (a .size) (a .mode) h (a .info .now) (a .frame .now) (r .last .1 .0) (s .pre .3) k (r .ensures),
+      delivered-frame (a .size) (a .mode) h (a .message .now) (a .frame .now) (r .last .1 .0) (s .pre .3) k (r .ensures),
     )
 
 pub deliver-spec : {M : Type 1} → statement M

@@ -21,10 +21,10 @@ put-heading-requires c κs =
     let f = c .before .before .before .first-hash-size in
     let g = c .before .before .second-hash-size in
     let h = 2 * f .result + 2 * g .result in
-    let q = request-lt (s .args .size) (s .args .info .now) (s .pre .2 .below) in (
+    let q = request-lt (s .args .size) (s .args .message .now) (s .pre .2 .below) in (
       s .pre .0,
       omega (arith, q, s .pre .1),
-      rest-is _ h (s .args .info .now) (omega (arith, s .pre .2 .long, f .ensures .0, g .ensures .0)),
+      rest-is _ h (s .args .message .now) (omega (arith, s .pre .2 .long, f .ensures .0, g .ensures .0)),
       length-take-le h blank (omega (arith, f .ensures .2, g .ensures .1)) ∙ omega (arith, f .ensures .0, g .ensures .0),
     )
 
@@ -50,7 +50,7 @@ slice-aggregate-same-2 c =
     let s = c .before .before .before .before .before .before .before .before .before in
     let f = c .before .before .before .before .before .before .before .first-hash-size in
     let g = c .before .before .before .before .before .before .second-hash-size in
-    sym (length-take-le (2 * f .result + 2 * g .result) (s .args .info .now) (omega (arith, s .pre .2 .long, f .ensures .0, g .ensures .0)))
+    sym (length-take-le (2 * f .result + 2 * g .result) (s .args .message .now) (omega (arith, s .pre .2 .long, f .ensures .0, g .ensures .0)))
 
 same-requires : tie.Need-same-requires
 same-requires c κs =
@@ -61,7 +61,7 @@ same-requires c κs =
     let p = c .before .before .before .put-heading in
     let l = length-front blank (p .last .1 .1 .1 .1 .0) h (p .kept .1 .1 .1 .1 .0) in
     length-take-le h (p .last .1 .1 .1 .1 .0 ++ drop h blank) (omega (arith, f .ensures .2, g .ensures .1))
-    ∙ sym (length-take-le h (s .args .info .now) (omega (arith, s .pre .2 .long, f .ensures .0, g .ensures .0)))
+    ∙ sym (length-take-le h (s .args .message .now) (omega (arith, s .pre .2 .long, f .ensures .0, g .ensures .0)))
 
 returns : tie.Need-returns
 returns c =
@@ -71,7 +71,7 @@ returns c =
     let g = c .before .before .before .before .before .before .before .second-hash-size in
     let h = 2 * f .result + 2 * g .result in
     let p = c .before .before .before .before .put-heading in
-    matches-told (a .size) (a .mode) (a .request) h (a .info .now) (p .last .1 .1 .1 .1 .0) (drop h blank) (s .pre .2) (omega (arith, f .ensures .0, g .ensures .0)) (s .pre .1) (p .ensures) (c .same .ensures)
+    matches-told (a .size) (a .mode) (a .request) h (a .message .now) (p .last .1 .1 .1 .1 .0) (drop h blank) (s .pre .2) (omega (arith, f .ensures .0, g .ensures .0)) (s .pre .1) (p .ensures) (c .same .ensures)
 
 pub matches-spec : {M : Type 1} → statement M
 matches-spec =

@@ -2,8 +2,8 @@
 use Rattle.slot_laws.proofs.Sizes.{length-low}
 use Rattle.slot_interleaving.proofs.PlaceSteps.{span-none, span-down, span-end, place-below, place-is, added-row}
 use Rattle.gf16.specs.Field.{sum}
-use Rattle.code_word_laws.specs.Register.{poured}
-use Rattle.code_word_laws.proofs.Checks.{digits-length, digits-start, poured-turn}
+use Rattle.code_word_laws.specs.Register.{withChecks}
+use Rattle.code_word_laws.proofs.Checks.{digits-length, digits-start, with-checks-turn}
 use mathlib.Core.List.{[]}
 use Rattle.slot_interleaving.specs.Inner.{Spanned}
 use Rattle.slot_laws.specs.Words.{signature}
@@ -21,8 +21,8 @@ use Rattle.slot_sizes.proofs.word_count.Reads as word-count-reads
 
 abbrev Inv-loop : tie.InvT-loop
 Inv-loop size i mode r row places₀ count rest₀ k₀ places rest k = (k ≤ 2 * (mode - 1)) × (length places ≡ 800)
-    × (poured k rest (drop k (poured (2 * (mode - 1)) r [])) ≡ poured (2 * (mode - 1)) r [])
-    × Spanned size (signature mode) i (λ j. getD (poured (2 * (mode - 1)) r []) j 0) k (2 * (mode - 1)) places₀ places
+    × (withChecks k rest (drop k (withChecks (2 * (mode - 1)) r [])) ≡ withChecks (2 * (mode - 1)) r [])
+    × Spanned size (signature mode) i (λ j. getD (withChecks (2 * (mode - 1)) r []) j 0) k (2 * (mode - 1)) places₀ places
 
 abbrev μ-loop : tie.MeasureT-loop
 μ-loop size i mode r row places₀ count rest₀ k₀ places rest k = k
@@ -69,8 +69,8 @@ loop-again c =
     let h = c .before .before in
     let a = s .args in
     let n : ℕ = 2 * (a .mode - 1) in
-    let w = poured n (a .r) [] in
-    let t = poured-turn (h .loop .k) (h .loop .rest) w (c .before .loop-test .taken) (omega (arith, digits-length n (a .r), h .loop .inv .0)) (h .loop .inv .2) in
+    let w = withChecks n (a .r) [] in
+    let t = with-checks-turn (h .loop .k) (h .loop .rest) w (c .before .loop-test .taken) (omega (arith, digits-length n (a .r), h .loop .inv .0)) (h .loop .inv .2) in
     let v = added-row (h .loop .rest % 16) (getD (a .row .now) (h .loop .k - 1) 0) (signature (a .mode) (a .i) (h .loop .k - 1)) (s .pre .4 (h .loop .k - 1))
     ∙ ap (λ (x : ℕ). sum x (signature (a .mode) (a .i) (h .loop .k - 1))) (t .0) in
     let l = length-low (a .size) (a .i) (s .pre .0 .size-from) (s .pre .1) in

@@ -20,11 +20,11 @@ use Rattle.code_word.proofs.with_data.Reads as with-data-reads
 use Rattle.slot_sizes.proofs.word_count.Reads as word-count-reads
 
 abbrev Inv-loop : tie.InvT-loop
-Inv-loop size i mode info row rows places₀ count checks r₀ k₀ places r k = (k ≤ length info) × (length places ≡ 800) × (r ≡ summed rows (λ j. getD info j 0) k)
-    × Spanned size (signature mode) i (λ j. getD info (j - 2 * (mode - 1)) 0) (2 * (mode - 1)) (2 * (mode - 1) + k) places₀ places
+Inv-loop size i mode message row rows places₀ count checks r₀ k₀ places r k = (k ≤ length message) × (length places ≡ 800) × (r ≡ summed rows (λ j. getD message j 0) k)
+    × Spanned size (signature mode) i (λ j. getD message (j - 2 * (mode - 1)) 0) (2 * (mode - 1)) (2 * (mode - 1) + k) places₀ places
 
 abbrev μ-loop : tie.MeasureT-loop
-μ-loop size i mode info row rows places₀ count checks r₀ k₀ places r k = length info - k
+μ-loop size i mode message row rows places₀ count checks r₀ k₀ places r k = length message - k
 
 -- semi-octet n + k is one of word i
 in-word : (c : lts.After-shared-slice-known4 (word-count-reads.Asked, word-count-reads.Learnt, with-data-reads.Asked, with-data-reads.Learnt) reads.Pre reads.Post Inv-loop μ-loop)
@@ -50,7 +50,7 @@ loop-holds : tie.Need-loop-holds Inv-loop μ-loop
 loop-holds c =
     let s = c .before .before .before .before in
     let a = s .args in
-    (omega arith, s .pre .4, summed-none (a .rows .now) (λ j. getD (a .info .now) j 0), span-none (a .size) (signature (a .mode)) (a .i) _ _ _ (a .places .now) (omega arith))
+    (omega arith, s .pre .4, summed-none (a .rows .now) (λ j. getD (a .message .now) j 0), span-none (a .size) (signature (a .mode)) (a .i) _ _ _ (a .places .now) (omega arith))
 
 shared-slice-read-places : tie.Need-shared-slice-read-places Inv-loop μ-loop
 shared-slice-read-places c =
@@ -83,16 +83,16 @@ loop-again c =
     let a = s .args in
     let n : ℕ = 2 * (a .mode - 1) in
     let w = in-word c in
-    let f : ℕ → ℕ = λ j. getD (a .info .now) (j - n) 0 in
+    let f : ℕ → ℕ = λ j. getD (a .message .now) (j - n) 0 in
     let e : h .loop .k ≡ n + h .loop .k - n = omega arith in
-    let v = added-row (getD (a .info .now) (h .loop .k) 0) (getD (a .row .now) (n + h .loop .k) 0) (signature (a .mode) (a .i) (n + h .loop .k)) (s .pre .5 (n + h .loop .k))
-    ∙ ap (λ (x : ℕ). sum (getD (a .info .now) x 0) (signature (a .mode) (a .i) (n + h .loop .k))) e in
+    let v = added-row (getD (a .message .now) (h .loop .k) 0) (getD (a .row .now) (n + h .loop .k) 0) (signature (a .mode) (a .i) (n + h .loop .k)) (s .pre .5 (n + h .loop .k))
+    ∙ ap (λ (x : ℕ). sum (getD (a .message .now) x 0) (signature (a .mode) (a .i) (n + h .loop .k))) e in
     let g = span-up (a .size) (signature (a .mode)) (a .i) f (s .pre .0 .size-from) (s .pre .0 .size-to) (s .pre .1) n (n + h .loop .k) (n + h .loop .k) _ _
     (a .places .now) (h .loop .places) (h .loop .inv .3) (s .pre .4) (place-is (a .size) (h .before .word-count .result) (a .i) (n + h .loop .k) (h .before .word-count .ensures .0)) v
     (n + (h .loop .k + 1)) (omega arith) refl (omega arith) w in (
       omega (arith, c .before .before .before .loop-test .taken),
       g .long ∙ s .pre .4,
-      summed-next (a .rows .now) (λ j. getD (a .info .now) j 0) (h .loop .k) _ (h .loop .r) _ refl (h .loop .inv .2) (c .before .with-data .ensures),
+      summed-next (a .rows .now) (λ j. getD (a .message .now) j 0) (h .loop .k) _ (h .loop .r) _ refl (h .loop .inv .2) (c .before .with-data .ensures),
       g,
     )
 
@@ -104,9 +104,9 @@ returns c =
     let s = c .before .before .before .before .before .before in
     let h = c .before in
     let a = s .args in
-    let e : h .loop .k ≡ length (a .info .now) = omega (arith, c .loop-test .left, h .loop .inv .0) in
+    let e : h .loop .k ≡ length (a .message .now) = omega (arith, c .loop-test .left, h .loop .inv .0) in
     let w = checks-fit (a .size) (a .mode) (a .i) (s .pre .0) (s .pre .1) in (
-      h .loop .inv .2 ∙ ap (summed (a .rows .now) (λ j. getD (a .info .now) j 0)) e,
+      h .loop .inv .2 ∙ ap (summed (a .rows .now) (λ j. getD (a .message .now) j 0)) e,
       span-end (a .size) (signature (a .mode)) (a .i) _ _ _ _ _ (a .places .now) (h .loop .places) refl (omega (arith, w, s .pre .2, e)) (h .loop .inv .3),
     )
 

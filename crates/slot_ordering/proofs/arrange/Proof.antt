@@ -15,8 +15,8 @@ unroll-requires c κs =
     let l = frame-fits (s .args .size) (s .args .mode) (s .pre .0) in
     (rest-is _ h (s .args .out .now) (omega (arith, s .pre .2, s .pre .3, f .ensures .0, g .ensures .0)), omega (arith, s .pre .2))
 
-mix-requires : tie.Need-mix-requires
-mix-requires c κs =
+swap-request-requires : tie.Need-swap-request-requires
+swap-request-requires c κs =
     let s = c .before .before .before .before .before .before .before .before .before .before .before .before .before in
     let a = s .args in
     let f = c .before .before .before .before .before .before .before .before .before .before .first-hash-size in
@@ -35,7 +35,7 @@ returns c =
     let h = 2 * f .result + 2 * g .result in
     let p = c .before .before .before .before .before .before .put-in-front in
     let e = arranged (a .size) (a .mode) (a .request) h (a .frame .now) (a .out .now) (c .before .before .before .before .before .before .before .before .before .before .unroll .last .1 .0) (p .last .1 .1 .1 .0) (omega (arith, f .ensures .0, g .ensures .0)) (omega (arith, s .pre .3, f .ensures .0, g .ensures .0)) (s .pre .2) (c .before .before .before .before .before .before .before .before .before .before .unroll .ensures) (p .ensures) in
-    data-is (a .size) (a .mode) (a .request) (a .frame .now) (p .last .1 .1 .1 .0) (c .before .before .mix .last .1 .1 .0) e (c .before .before .mix .ensures)
+    data-is (a .size) (a .mode) (a .request) (a .frame .now) (p .last .1 .1 .1 .0) (c .before .before .swap-request .last .1 .1 .0) e (c .before .before .swap-request .ensures)
 
 pub arrange-spec : {M : Type 1} → statement M
 arrange-spec =
@@ -43,4 +43,4 @@ arrange-spec =
     (tie.spec
     (λ c κs. search needs) (λ c. search needs) (λ c κs. search needs) (λ c. search needs) (λ c. search needs)
     (λ c. search needs) (λ c. search needs) (λ c. search needs) unroll-requires (λ c κs. search needs)
-    mix-requires (λ c. search needs) returns)
+    swap-request-requires (λ c. search needs) returns)

@@ -1,6 +1,6 @@
 -- `slot::protect_sized` meets its contract. Assumes nothing.
 use mathlib.Core.List.{_++_}
-use Rattle.slot_laws.proofs.ProtectSteps.{blanks, info-long, info-is, slot-is}
+use Rattle.slot_laws.proofs.ProtectSteps.{blanks, message-long, message-is, slot-is}
 use Rattle.slot_laws.proofs.Order.{data-of}
 use lib.Seq.{length-take-le, length-front}
 use lib.ListN.{drop}
@@ -11,14 +11,14 @@ use borrow.Author.Needs.{needs}
 use Rattle.slot_protection.proofs.protect_sized.Statement.{statement}
 use Rattle.slot_protection.proofs.protect_sized.Tie as tie
 
-array-borrow-prefix-info : tie.Need-array-borrow-prefix-info
-array-borrow-prefix-info c =
+array-borrow-prefix-message : tie.Need-array-borrow-prefix-message
+array-borrow-prefix-message c =
     let s = c .before .before .before .before .before .before .before in
     let a = s .args in
     let f = c .before .first-hash-size in
     let g = c .second-hash-size in
     let n = c .before .before .before .before .frame-bytes in
-    let l = info-long (a .size) (a .mode) (f .result) (g .result) (n .result) (s .pre .0) (f .ensures .0) (g .ensures .0) (n .ensures .0) in
+    let l = message-long (a .size) (a .mode) (f .result) (g .result) (n .result) (s .pre .0) (f .ensures .0) (g .ensures .0) (n .ensures .0) in
     let e = 2 * f .result + 2 * g .result + 2 * n .result in
     l .1
 
@@ -29,7 +29,7 @@ slice-aggregate-arrange c =
     let f = c .before .before .first-hash-size in
     let g = c .before .second-hash-size in
     let n = c .before .before .before .before .before .frame-bytes in
-    let l = info-long (a .size) (a .mode) (f .result) (g .result) (n .result) (s .pre .0) (f .ensures .0) (g .ensures .0) (n .ensures .0) in
+    let l = message-long (a .size) (a .mode) (f .result) (g .result) (n .result) (s .pre .0) (f .ensures .0) (g .ensures .0) (n .ensures .0) in
     let e = 2 * f .result + 2 * g .result + 2 * n .result in
     sym (length-take-le e blanks (l .1))
 
@@ -40,18 +40,18 @@ arrange-requires c κs =
     let f = c .before .before .first-hash-size in
     let g = c .before .second-hash-size in
     let n = c .before .before .before .before .before .frame-bytes in
-    let l = info-long (a .size) (a .mode) (f .result) (g .result) (n .result) (s .pre .0) (f .ensures .0) (g .ensures .0) (n .ensures .0) in
+    let l = message-long (a .size) (a .mode) (f .result) (g .result) (n .result) (s .pre .0) (f .ensures .0) (g .ensures .0) (n .ensures .0) in
     let e = 2 * f .result + 2 * g .result + 2 * n .result in
     (s .pre .0, s .pre .1, omega (arith, n .ensures .0, c .before .before .before .before .if1 .left), length-take-le e blanks (l .1) ∙ l .0)
 
-array-share-prefix-info : tie.Need-array-share-prefix-info
-array-share-prefix-info c =
+array-share-prefix-message : tie.Need-array-share-prefix-message
+array-share-prefix-message c =
     let s = c .before .before .before .before .before .before .before .before .before .before in
     let a = s .args in
     let f = c .before .before .before .before .first-hash-size in
     let g = c .before .before .before .second-hash-size in
     let n = c .before .before .before .before .before .before .before .frame-bytes in
-    let l = info-long (a .size) (a .mode) (f .result) (g .result) (n .result) (s .pre .0) (f .ensures .0) (g .ensures .0) (n .ensures .0) in
+    let l = message-long (a .size) (a .mode) (f .result) (g .result) (n .result) (s .pre .0) (f .ensures .0) (g .ensures .0) (n .ensures .0) in
     let e = 2 * f .result + 2 * g .result + 2 * n .result in
     let m = c .before .arrange in
     let w = length-front blanks (m .last .1 .1 .1 .1 .0) e (m .kept .1 .1 .1 .1 .0) in
@@ -64,7 +64,7 @@ slice-aggregate-write-slot c =
     let f = c .before .before .before .before .before .first-hash-size in
     let g = c .before .before .before .before .second-hash-size in
     let n = c .before .before .before .before .before .before .before .before .frame-bytes in
-    let l = info-long (a .size) (a .mode) (f .result) (g .result) (n .result) (s .pre .0) (f .ensures .0) (g .ensures .0) (n .ensures .0) in
+    let l = message-long (a .size) (a .mode) (f .result) (g .result) (n .result) (s .pre .0) (f .ensures .0) (g .ensures .0) (n .ensures .0) in
     let e = 2 * f .result + 2 * g .result + 2 * n .result in
     let m = c .before .before .arrange in
     let w = length-front blanks (m .last .1 .1 .1 .1 .0) e (m .kept .1 .1 .1 .1 .0) in
@@ -77,11 +77,11 @@ write-slot-requires c κs =
     let f = c .before .before .before .before .before .before .first-hash-size in
     let g = c .before .before .before .before .before .second-hash-size in
     let n = c .before .before .before .before .before .before .before .before .before .frame-bytes in
-    let l = info-long (a .size) (a .mode) (f .result) (g .result) (n .result) (s .pre .0) (f .ensures .0) (g .ensures .0) (n .ensures .0) in
+    let l = message-long (a .size) (a .mode) (f .result) (g .result) (n .result) (s .pre .0) (f .ensures .0) (g .ensures .0) (n .ensures .0) in
     let e = 2 * f .result + 2 * g .result + 2 * n .result in
     let m = c .before .before .before .arrange in (
       s .pre .0,
-      rw (info-is (a .size) (a .mode) (a .request) e (a .frame .now) (m .last .1 .1 .1 .1 .0) (drop e blanks) (l .0) (m .ensures)) (data-of (a .size) (a .mode) (a .request) (a .frame .now)),
+      rw (message-is (a .size) (a .mode) (a .request) e (a .frame .now) (m .last .1 .1 .1 .1 .0) (drop e blanks) (l .0) (m .ensures)) (data-of (a .size) (a .mode) (a .request) (a .frame .now)),
       omega (arith, c .before .before .before .before .before .before .before .if2 .left),
     )
 
@@ -92,7 +92,7 @@ returns-3 c =
     let f = c .before .before .before .before .before .before .before .before .before .first-hash-size in
     let g = c .before .before .before .before .before .before .before .before .second-hash-size in
     let n = c .before .before .before .before .before .before .before .before .before .before .before .before .frame-bytes in
-    let l = info-long (a .size) (a .mode) (f .result) (g .result) (n .result) (s .pre .0) (f .ensures .0) (g .ensures .0) (n .ensures .0) in
+    let l = message-long (a .size) (a .mode) (f .result) (g .result) (n .result) (s .pre .0) (f .ensures .0) (g .ensures .0) (n .ensures .0) in
     let e = 2 * f .result + 2 * g .result + 2 * n .result in
     let m = c .before .before .before .before .before .before .arrange in
     record {
@@ -108,5 +108,5 @@ protect-sized-spec =
     (tie.spec
     (λ c κs. search needs) (λ c. search needs) (λ c. search needs) (λ c κs. search needs) (λ c. search needs)
     (λ c κs. search needs) (λ c. search needs) (λ c. search needs) (λ c. search needs) (λ c. search needs)
-    array-borrow-prefix-info slice-aggregate-arrange arrange-requires array-share-prefix-info
+    array-borrow-prefix-message slice-aggregate-arrange arrange-requires array-share-prefix-message
     slice-aggregate-write-slot write-slot-requires (λ c. search needs) returns-3)

@@ -16,16 +16,16 @@ use Rattle.slot_repair.proofs.gather.Statement.{statement}
 use Rattle.slot_repair.proofs.gather.Tie as tie
 
 abbrev Inv-loop : tie.InvT-loop
-Inv-loop size mode all counts info₀ checks from₀ at₀ sum₀ i₀ info from at sum i = (i ≤ length counts) × (from ≤ 15 * i) × (at ≤ 15 * i) × (sum ≤ 3 * i) × (from ≡ total (wordLength size) i) × (at ≡ total (dataLength size mode) i) × GatheredTo size mode all counts info i sum
+Inv-loop size mode all counts message₀ checks from₀ at₀ sum₀ i₀ message from at sum i = (i ≤ length counts) × (from ≤ 15 * i) × (at ≤ 15 * i) × (sum ≤ 3 * i) × (from ≡ total (wordLength size) i) × (at ≡ total (dataLength size mode) i) × GatheredTo size mode all counts message i sum
 
 abbrev μ-loop : tie.MeasureT-loop
-μ-loop size mode all counts info₀ checks from₀ at₀ sum₀ i₀ info from at sum i = length counts - i
+μ-loop size mode all counts message₀ checks from₀ at₀ sum₀ i₀ message from at sum i = length counts - i
 
 loop-holds : tie.Need-loop-holds Inv-loop μ-loop
 loop-holds c =
     let s = c .before .before .before in
     let a = s .args in
-    (omega arith, omega arith, omega arith, omega arith, sym (total-none (wordLength (a .size))), start-first (a .size) (a .mode), gathered-first (a .size) (a .mode) (a .all .now) (a .counts .now) (a .info .now) (s .pre .4))
+    (omega arith, omega arith, omega arith, omega arith, sym (total-none (wordLength (a .size))), start-first (a .size) (a .mode), gathered-first (a .size) (a .mode) (a .all .now) (a .counts .now) (a .message .now) (s .pre .4))
 
 cast-if1 : tie.Need-cast-if1 Inv-loop μ-loop
 cast-if1 c = record { fits = omega (arith, c .shared-slice-known3 .given (c .before .before .loop .i) .fits) }

@@ -9,17 +9,17 @@ use Rattle.slot_laws.proofs.ProtectSteps.{blanks}
 use Rattle.slot_repair.proofs.repair.Statement.{statement}
 use Rattle.slot_repair.proofs.repair.Tie as tie
 
-slice-aggregate-mend-with : tie.Need-slice-aggregate-mend-with
-slice-aggregate-mend-with c =
+slice-aggregate-correct-with : tie.Need-slice-aggregate-correct-with
+slice-aggregate-correct-with c =
     let s = c .before .before .before .before in
     sym (length-take-le (2 * s .args .size) blanks (omega (arith, s .pre .0 .size-to)))
 
-slice-aggregate-mend-with-2 : tie.Need-slice-aggregate-mend-with-2
-slice-aggregate-mend-with-2 c =
+slice-aggregate-correct-with-2 : tie.Need-slice-aggregate-correct-with-2
+slice-aggregate-correct-with-2 c =
     sym (length-take-le (c .before .before .word-count .result) (replicate 54 0) (omega (arith, c .before .before .word-count .ensures .1)))
 
-mend-with-requires : tie.Need-mend-with-requires
-mend-with-requires c κs =
+correct-with-requires : tie.Need-correct-with-requires
+correct-with-requires c κs =
     let s = c .before .before .before .before .before .before in
     let n = c .before .before .before .word-count in (
       s .pre .0,
@@ -34,5 +34,5 @@ pub repair-spec : {M : Type 1} → statement M
 repair-spec =
     tie.close
     (tie.spec
-    (λ c κs. search needs) (λ c. search needs) (λ c. search needs) slice-aggregate-mend-with
-    (λ c. search needs) slice-aggregate-mend-with-2 mend-with-requires (λ c. search needs) (λ c. search needs))
+    (λ c κs. search needs) (λ c. search needs) (λ c. search needs) slice-aggregate-correct-with
+    (λ c. search needs) slice-aggregate-correct-with-2 correct-with-requires (λ c. search needs) (λ c. search needs))

@@ -1,0 +1,72 @@
+-- `code_word_locator::find_locator` meets its contract. Assumes nothing.
+use mathlib.Core.Path.{_≡_, sym, _∙_}
+use native.Mathlib.Omega.{arith}
+use borrow.Author.Needs.{needs}
+use Rattle.code_word_laws.proofs.Levels.{minor-done}
+use Rattle.code_word_laws.proofs.Packed.{nibble-lt}
+use Rattle.code_word_locator.proofs.find_locator.Statement.{statement}
+use Rattle.code_word_locator.proofs.find_locator.Tie as tie
+
+locator-low-requires : tie.Need-locator-low-requires
+locator-low-requires c κs =
+    let p = c .before .pre in
+    (p .0, p .1, p .2, λ n. absurd (omega arith))
+
+minor-two-requires : tie.Need-minor-two-requires
+minor-two-requires c κs =
+    let s = c .before .args .s in
+    (c .before .pre .0, nibble-lt 1 s, nibble-lt 2 s, nibble-lt 2 s, nibble-lt 3 s)
+
+minor-two-requires-2 : tie.Need-minor-two-requires-2
+minor-two-requires-2 c κs =
+    let s = c .before .before .args .s in
+    (c .before .before .pre .0, nibble-lt 1 s, nibble-lt 3 s, nibble-lt 2 s, nibble-lt 4 s)
+
+minor-two-requires-3 : tie.Need-minor-two-requires-3
+minor-two-requires-3 c κs =
+    let s = c .before .before .before .args .s in
+    (c .before .before .before .pre .0, nibble-lt 2 s, nibble-lt 3 s, nibble-lt 3 s, nibble-lt 4 s)
+
+tripled-requires : tie.Need-tripled-requires
+tripled-requires c κs =
+    let s = c .before .before .before .before .args .s in
+    (c .before .before .before .before .pre .0, c .minor-two3 .ensures .1, nibble-lt 3 s, c .before .minor-two2 .ensures .1, nibble-lt 4 s, c .before .before .minor-two .ensures .1, nibble-lt 5 s)
+
+locator-three-requires : tie.Need-locator-three-requires
+locator-three-requires c κs =
+    let m = c .before in
+    let a = m .before .before .before .before .before in (
+      a .pre .0,
+      m .tripled .ensures .1,
+      c .if2 .taken,
+      minor-done (a .args .s) (m .before .before .before .minor-two .ensures .0) (m .before .before .minor-two2 .ensures .0) (m .before .minor-two3 .ensures .0) (m .tripled .ensures .0),
+    )
+
+returns-2 : tie.Need-returns-2
+returns-2 c =
+    let a = c .before .before .before .before .before .before .before in
+    let three : a .args .most ≡ 3 = omega (arith, a .pre .2, c .before .before .before .before .before .before .if1 .left) in
+    rw three (c .locator-three .ensures)
+
+locator-low-requires-2 : tie.Need-locator-low-requires-2
+locator-low-requires-2 c κs =
+    let m = c .before in
+    let a = m .before .before .before .before .before in (
+      a .pre .0,
+      a .pre .1,
+      a .pre .2,
+      λ n.
+          sym (minor-done (a .args .s) (m .before .before .before .minor-two .ensures .0) (m .before .before .minor-two2 .ensures .0) (m .before .minor-two3 .ensures .0) (m .tripled .ensures .0))
+          ∙ c .if2 .left,
+    )
+
+returns-3 : tie.Need-returns-3
+returns-3 c = c .locator-low2 .ensures
+
+pub find-locator-spec : {M : Type 1} → statement M
+find-locator-spec =
+    tie.close
+    (tie.spec
+    locator-low-requires (λ c. search needs) (λ c. search needs) (λ c. search needs) (λ c. search needs)
+    (λ c. search needs) (λ c. search needs) minor-two-requires minor-two-requires-2 minor-two-requires-3
+    tripled-requires locator-three-requires returns-2 locator-low-requires-2 returns-3)
