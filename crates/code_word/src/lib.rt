@@ -9,8 +9,6 @@ ghost use Rattle.code_word.specs.Make as making;
 ghost use Rattle.code_word_laws.specs.Checks.{IsCheckRows, withData};
 ghost use Rattle.code_word.specs.Correct.{Corrects, numberOf, countOf, CorrectsEach, batchNumberOf};
 
-mod settings;
-
 // Whether a word was made.
 pub enum Making {
     Made,
@@ -34,11 +32,11 @@ pub enum Answers {
 pub fn make(word: &mut [u8], mode: u32) -> Making
     ensures { λ r. ⌜ making.Makes mode (now (word .entry)) (now (word .exit)) (making.numberOf r) ⌝ }
 {
-    if !settings::fits(mode, word.len()) {
+    if !code_word_settings::fits(mode, word.len()) {
         return Making::Unsuitable;
     }
-    let n = 2 * (mode as usize) - 2;
-    if !settings::semi_octets(word, n) {
+    let n = code_word_settings::distance(mode as usize) - 1;
+    if !code_word_settings::semi_octets(word, n) {
         return Making::Unsuitable;
     }
     let rows = code_word_encoder::rows(mode);
@@ -68,10 +66,10 @@ pub fn with_data(rows: &[u32; 208], k: usize, c: u8, r: u32) -> u32
 pub fn correct(word: &mut [u8], mode: u32) -> Correction
     ensures { λ r. ⌜ Corrects mode (now (word .entry)) (now (word .exit)) (numberOf r) (countOf r) ⌝ }
 {
-    if !settings::fits(mode, word.len()) {
+    if !code_word_settings::fits(mode, word.len()) {
         return Correction::Unsuitable;
     }
-    if !settings::semi_octets(word, 0) {
+    if !code_word_settings::semi_octets(word, 0) {
         return Correction::Unsuitable;
     }
     let most = (mode - 1) as u8;
@@ -93,13 +91,13 @@ pub fn correct_each(words: &mut [u8], mode: u32, counts: &mut [u8]) -> Answers
     }
     let long = words.len() / counts.len();
     let over = words.len() % counts.len();
-    if !settings::fits(mode, long) {
+    if !code_word_settings::fits(mode, long) {
         return Answers::Unsuitable;
     }
-    if !settings::fits_longer(mode, long, over) {
+    if !code_word_settings::fits_longer(mode, long, over) {
         return Answers::Unsuitable;
     }
-    if !settings::semi_octets(words, 0) {
+    if !code_word_settings::semi_octets(words, 0) {
         return Answers::Unsuitable;
     }
     let most = (mode - 1) as u8;

@@ -11,18 +11,18 @@ use lib.ListN.{length, getD, drop}
 use lib.Seq.{drop-cons, drop-length}
 use borrow.Author.Tests.{ltb-true, ltb-false, leb-true, leb-false}
 use Rattle.laws.specs.Decides.{Decides}
-use Rattle.code_word_laws.specs.Word.{SemiOctets, Fits}
+use Rattle.code_word_laws.specs.Word.{SemiOctets, Fits, distance}
 
 -- ---- the settings
 
 pub fits-not : (mode long : ℕ) → (Fits mode long → ⊥) → Decides (Fits mode long) false
 fits-not mode long h = record { holds = λ e. absurd (false≢true e); fails = λ e f. h f }
 
-pub fits-checked : (mode long : ℕ) → 2 ≤ mode → mode ≤ 4 → long ≤ 15 → Decides (Fits mode long) (leb (2 * mode - 2) long)
-fits-checked mode long a b c =
+pub fits-checked : (mode d long : ℕ) → 2 ≤ mode → mode ≤ 4 → d ≡ distance mode → long ≤ 15 → Decides (Fits mode long) (leb (d - 1) long)
+fits-checked mode d long a b e c =
     record {
-      holds = λ e. let h : 2 * mode - 2 ≤ long = leb-true (2 * mode - 2) long e in record { mode-from = a; mode-to = b; checks = omega arith; most = c };
-      fails = λ e f. let h : long < 2 * mode - 2 = leb-false (2 * mode - 2) long e in omega (arith, f .checks);
+      holds = λ t. let h : d - 1 ≤ long = leb-true (d - 1) long t in record { mode-from = a; mode-to = b; checks = omega arith; most = c };
+      fails = λ t f. let h : long < d - 1 = leb-false (d - 1) long t in omega (arith, f .checks);
     }
 
 pub drop-back : (w : List ℕ) (i : ℕ) → 0 < i → i ≤ length w → drop (i - 1) w ≡ getD w (i - 1) 0 ∷ drop i w

@@ -35,6 +35,12 @@ apart (x ∷ xs) (y ∷ ys) = unequal (eqb x y) + apart xs ys
 abbrev pub distance : ℕ → ℕ
 distance mode = 2 * mode - 1
 
+-- the same as a caller learns it, with its bounds
+pub record IsDistance (mode d : ℕ) : Type 0 where
+  pub is : d ≡ distance mode
+  pub from : 3 ≤ d
+  pub to : d ≤ 7
+
 -- the settings and lengths that a word is taken with: mode 2, 3 or 4, at least the check semi-octets, and at most 15 in all
 pub record Fits (mode long : ℕ) : Type 0 where
   pub mode-from : 2 ≤ mode

@@ -14,28 +14,28 @@ returns c =
     let a = c .before .before .before .args in
     not-made-fitting (a .mode) (a .word .now) (told-no _ (c .before .fits2 .result) (c .before .fits2 .ensures) (c .if1 .taken))
 
-sub-n : tie.Need-sub-n
-sub-n c =
+distance-requires : tie.Need-distance-requires
+distance-requires c κs =
     let a = c .before .before .before .args in
     let f : Fits (a .mode) (length (a .word .now)) = told-yes _ (c .before .fits2 .result) (c .before .fits2 .ensures) (c .if1 .left) in
-    omega (arith, f .mode-from)
+    (f .mode-from, f .mode-to)
 
 semi-octets-requires : tie.Need-semi-octets-requires
 semi-octets-requires c κs =
-    let e = c .before in
+    let e = c .before .before in
     let a = e .before .before .before .args in
     let f : Fits (a .mode) (length (a .word .now)) = told-yes _ (e .before .fits2 .result) (e .before .fits2 .ensures) (e .if1 .left) in
     omega (arith, f .checks)
 
 returns-2 : tie.Need-returns-2
 returns-2 c =
-    let e = c .before .before .before in
+    let e = c .before .before .before .before in
     let a = e .before .before .before .args in
-    encoding.not-made (a .mode) (2 * a .mode - 2) (a .word .now) (omega arith) (told-no _ (c .before .semi-octets .result) (c .before .semi-octets .ensures) (c .if2 .taken))
+    encoding.not-made (a .mode) (c .before .before .before .distance .result - 1) (a .word .now) (omega arith) (told-no _ (c .before .semi-octets .result) (c .before .semi-octets .ensures) (c .if2 .taken))
 
 rows-requires : tie.Need-rows-requires
 rows-requires c κs =
-    let e = c .before .before .before in
+    let e = c .before .before .before .before in
     let a = e .before .before .before .args in
     let f : Fits (a .mode) (length (a .word .now)) = told-yes _ (e .before .fits2 .result) (e .before .fits2 .ensures) (e .if1 .left) in
     (f .mode-from, f .mode-to)
@@ -43,14 +43,14 @@ rows-requires c κs =
 divide-requires : tie.Need-divide-requires
 divide-requires c κs =
     let d = c .before .before .before in
-    let e = d .before .before .before in
+    let e = d .before .before .before .before in
     let a = e .before .before .before .args in
     let f : Fits (a .mode) (length (a .word .now)) = told-yes _ (e .before .fits2 .result) (e .before .fits2 .ensures) (e .if1 .left) in
     (omega (arith, f .checks), told-yes _ (d .before .semi-octets .result) (d .before .semi-octets .ensures) (d .if2 .left))
 
 put-checks-requires : tie.Need-put-checks-requires
 put-checks-requires c κs =
-    let e = c .before .before .before .before .before .before .before .before in
+    let e = c .before .before .before .before .before .before .before .before .before in
     let a = e .before .before .before .args in
     let f : Fits (a .mode) (length (a .word .now)) = told-yes _ (e .before .fits2 .result) (e .before .fits2 .ensures) (e .if1 .left) in
     omega (arith, f .checks)
@@ -61,16 +61,18 @@ returns-3 c =
     let v = o .before .before in
     let r = v .before .before .before in
     let d = r .before in
-    let e = d .before .before .before in
+    let n = d .before .before .before .distance in
+    let e = d .before .before .before .before in
     let a = e .before .before .before .args in
     let f : Fits (a .mode) (length (a .word .now)) = told-yes _ (e .before .fits2 .result) (e .before .fits2 .ensures) (e .if1 .left) in
-    encoding.made (a .mode) (2 * a .mode - 2) (v .divide .result) (r .rows .result) (a .word .now) (o .put-checks .last .0)
-    (f .mode-from) (f .mode-to) (omega arith) (omega (arith, f .checks)) (f .most) (r .rows .ensures)
+    encoding.made (a .mode) (n .result - 1) (v .divide .result) (r .rows .result) (a .word .now) (o .put-checks .last .0)
+    (f .mode-from) (f .mode-to) (omega (arith, n .ensures .is)) (omega (arith, n .ensures .is, f .checks)) (f .most) (r .rows .ensures)
     (told-yes _ (d .before .semi-octets .result) (d .before .semi-octets .ensures) (d .if2 .left)) (v .divide .ensures) (o .put-checks .ensures)
 
 pub make-spec : {M : Type 1} → statement M
 make-spec =
     tie.close
     (tie.spec
-    (λ c κs. search needs) returns (λ c. search needs) sub-n semi-octets-requires (λ c. search needs)
-    returns-2 rows-requires divide-requires put-checks-requires (λ c. search needs) returns-3)
+    (λ c κs. search needs) returns distance-requires (λ c. search needs) semi-octets-requires
+    (λ c. search needs) returns-2 rows-requires divide-requires put-checks-requires (λ c. search needs)
+    returns-3)

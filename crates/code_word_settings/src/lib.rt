@@ -1,8 +1,22 @@
-// What a word may be: the modes and lengths that are taken, and elements that are semi-octets.
+// What a mode sets and what a word may be: the distance, the modes and lengths that are taken, and elements that are semi-octets.
+// Inner: `code_word` and the crates of `slot` stand over it. `distance` asks for mode 2, 3 or 4.
 ghost use Prim.Native.Nat.{_+_, _≤_, _<_};
 ghost use lib.ListN.{length, drop};
 ghost use Rattle.laws.specs.Decides.{Decides};
-ghost use Rattle.code_word_laws.specs.Word.{SemiOctets, Fits};
+ghost use Rattle.code_word_laws.specs.Word.{SemiOctets, Fits, IsDistance};
+
+// The distance of the code in a mode (A.10); one less is the number of check semi-octets.
+pub fn distance(mode: usize) -> usize
+    requires { ⌜ 2 ≤ mode ⌝ }
+    requires { ⌜ mode ≤ 4 ⌝ }
+    ensures { λ r. ⌜ IsDistance mode r ⌝ }
+{
+    match mode {
+        2 => 3,
+        3 => 5,
+        _ => 7,
+    }
+}
 
 // Whether words of this length are taken in this mode: at least the check semi-octets, and at most 15 in all.
 pub fn fits(mode: u32, long: usize) -> bool
@@ -10,7 +24,7 @@ pub fn fits(mode: u32, long: usize) -> bool
 {
     match long {
         2..=15 => match mode {
-            2..=4 => 2 * (mode as usize) - 2 <= long,
+            2..=4 => distance(mode as usize) - 1 <= long,
             _ => false,
         },
         _ => false,

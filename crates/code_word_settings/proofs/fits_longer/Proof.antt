@@ -1,8 +1,8 @@
--- `code_word::settings::fits_longer` meets its contract. Assumes nothing.
+-- `code_word_settings::fits_longer` meets its contract. Assumes nothing.
 use borrow.Author.Needs.{needs}
 use Rattle.code_word_laws.proofs.Tests.{longer-none, longer-some}
-use Rattle.code_word.proofs.settings.fits_longer.Statement.{statement}
-use Rattle.code_word.proofs.settings.fits_longer.Tie as tie
+use Rattle.code_word_settings.proofs.fits_longer.Statement.{statement}
+use Rattle.code_word_settings.proofs.fits_longer.Tie as tie
 
 returns : tie.Need-returns
 returns c = longer-none _ (c .before .args .over) (c .if1 .taken)

@@ -1,12 +1,12 @@
--- `code_word::settings::semi_octets` meets its contract: each turn takes in the bits of the element in front of those taken in before. Assumes nothing.
+-- `code_word_settings::semi_octets` meets its contract: each turn takes in the bits of the element in front of those taken in before. Assumes nothing.
 use mathlib.Core.Path.{_≡_}
 use Prim.Native.Nat.{_≤_}
 use native.Mathlib.Omega.{arith}
 use lib.ListN.{length, drop}
 use borrow.Author.Needs.{needs}
 use Rattle.code_word_laws.proofs.Tests.{Covers, covers-first, covers-next, covers-last}
-use Rattle.code_word.proofs.settings.semi_octets.Statement.{statement}
-use Rattle.code_word.proofs.settings.semi_octets.Tie as tie
+use Rattle.code_word_settings.proofs.semi_octets.Statement.{statement}
+use Rattle.code_word_settings.proofs.semi_octets.Tie as tie
 
 abbrev Inv-loop : tie.InvT-loop
 Inv-loop word n bits₀ k₀ bits k = (k ≤ length word) × (n ≤ k) × Covers bits (drop k word)
