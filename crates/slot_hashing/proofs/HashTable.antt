@@ -1,9 +1,9 @@
--- A semi-octet pushed at once: the four highest bits of the remainder and the four new ones enter only as their sum, and a table of 16 has
--- what that sum comes to four powers higher. One law over p and n; the tables are computed.
+-- A semi-octet pushed at once: the four highest bits of the remainder and the four new ones enter only as their sum, and a table has what
+-- that sum comes to four powers higher. Over p and n, as the table is.
 -- Assumes nothing.
 use mathlib.Core.Path.{_≡_, refl, sym, ap, ap₂, _∙_, subst}
 use mathlib.Core.Bool.{Bool}
-use mathlib.Core.List.{List, [], _∷_}
+use mathlib.Core.List.{List}
 use Prim.Native.Nat.{ℕ, zero, suc, _+_, _*_, _-_, _/_, _%_, _^_, _≤_, _<_}
 use native.Mathlib.Omega.{arith}
 use native.Mathlib.Nat.{two-pow-succ, zero-mul, one-mul, mul-comm, mul-assoc, div-lt-iff-lt-mul, div-eq-of-lt, mod-lt}
@@ -12,10 +12,11 @@ use lib.Dec.{eqb, eqb→eq}
 use lib.ListN.{getD}
 use lib.Pow.{pow-pos, pow-mono, pow-add, shl-lt, shl-exact, split}
 use Rattle.laws.proofs.Every.{at}
+use Rattle.laws.proofs.Tab.{getD-tab}
 use Rattle.gf16.specs.Field.{sum}
 use Rattle.gf16.proofs.Laws.{sum-zero, sum-lt}
 use Rattle.slot_laws.specs.Hash.{Degree, pushed}
-use Rattle.slot_hashing.specs.Inner.{lifted, Stepped}
+use Rattle.slot_hashing.specs.Inner.{lifted, stepAt, stepsOf, Stepped, semiPushed}
 use Rattle.slot_laws.proofs.Hash.{pushed-lt, sum-below, sum-shifted, sum-shr, sum-scale, sum-double, bit-lt, bit-times, exchange, xors}
 
 -- ---- powers higher
@@ -152,11 +153,44 @@ four p n m c r e d l =
 pub swap-low : (h l c : ℕ) → sum (sum h l) c ≡ sum l (sum h c)
 swap-low h l c = simp xors
 
+-- ---- the table
+
+-- a semi-octet at its place below x^n
+pub digit-fits : (c k n : ℕ) → c < 16 → 4 + k ≤ n → c * 2 ^ k < 2 ^ n
+digit-fits c k n h l = let t : c * 2 ^ k < 2 ^ (4 + k) = shl-lt 4 k h in let g : 2 ^ (4 + k) ≤ 2 ^ n = pow-mono l in omega arith
+
+pub step-is : (p n k t : ℕ) (steps : List ℕ) → steps ≡ stepsOf p n → k < 4 → t < 16
+    → getD steps (16 * k + t) 0 ≡ lifted p n 16 (t * 2 ^ (4 * k + (n - 16)))
+unfolding stepsOf stepAt
+step-is p n k t steps e h l =
+    let x : (16 * k + t) % 16 ≡ t = omega arith in
+    let y : (16 * k + t) / 16 ≡ k = omega arith in
+    ap (λ (s : List ℕ). getD s (16 * k + t) 0) e ∙ getD-tab (stepAt p n) 64 (16 * k + t) (omega arith)
+    ∙ ap₂ (λ (a b : ℕ). lifted p n 16 (a * 2 ^ (4 * b + (n - 16)))) x y
+
+-- the lowest of the four semi-octets needs only four powers
+pub lowest : (p n m t : ℕ) → 16 + m ≡ n → t < 16 → lifted p n 4 (t * 2 ^ (n - 4)) ≡ lifted p n 16 (t * 2 ^ m)
+unfolding lifted
+lowest p n m t e h =
+    let k : n - 4 ≡ m + 12 = omega arith in
+    let g : t * 2 ^ m * 2 ^ 12 ≡ t * 2 ^ (n - 4) =
+    mul-assoc t (2 ^ m) (2 ^ 12) ∙ ap (λ (y : ℕ). t * y) (sym (pow-add 2 m 12) ∙ ap (λ (x : ℕ). 2 ^ x) (sym k)) in
+    let u : t * 2 ^ (m + 12) < 2 ^ n = digit-fits t (m + 12) n h (omega arith) in
+    let v : t * 2 ^ (n - 4) < 2 ^ n = rw k u in
+    sym (ap (lifted p n 4) (lifted-low p n 12 (t * 2 ^ m) (omega arith) ∙ g))
+
+pub lowest-step : (p n t : ℕ) (steps : List ℕ) → steps ≡ stepsOf p n → 16 ≤ n → t < 16 → getD steps t 0 ≡ lifted p n 4 (t * 2 ^ (n - 4))
+lowest-step p n t steps e f h =
+    let z : t ≡ 16 * 0 + t = omega arith in
+    let m : 4 * 0 + (n - 16) ≡ n - 16 = omega arith in
+    ap (λ (x : ℕ). getD steps x 0) z ∙ step-is p n 0 t steps e (omega arith) h
+    ∙ ap (λ (x : ℕ). lifted p n 16 (t * 2 ^ x)) m ∙ sym (lowest p n (n - 16) t (omega arith) h)
+
 mul-lt-pow : (k m : ℕ) → k < 16 → k * 2 ^ m < 16 * 2 ^ m
 mul-lt-pow k m h = rw (pow-add 2 4 m) at (shl-lt 4 m h)
 
 -- a semi-octet pushed by the table
-pub semi-is : (p n c r : ℕ) (table : List ℕ) → Degree p n → 4 ≤ n → r < 2 ^ n → Stepped p n table
+semi-is : (p n c r : ℕ) (table : List ℕ) → Degree p n → 16 ≤ n → r < 2 ^ n → table ≡ stepsOf p n
     → sum (r % 2 ^ (n - 4) * 16) (getD table (sum (r / 2 ^ (n - 4)) (c % 16)) 0)
     ≡ pushed p n (c % 2) (pushed p n (c / 2 % 2) (pushed p n (c / 4 % 2) (pushed p n (c / 8 % 2) r)))
 semi-is p n c r table d f l t =
@@ -174,56 +208,45 @@ semi-is p n c r table d f l t =
     let g : sum r (c % 16 * 2 ^ m) ≡ sum q (k * 2 ^ m) =
     ap (λ (x : ℕ). sum x (c % 16 * 2 ^ m)) r-is ∙ swap-low (h * 2 ^ m) q (c % 16 * 2 ^ m) ∙ ap (sum q) (sum-scale h (c % 16) m) in
     sym (four p n m c r e d l ∙ ap (lifted p n 4) g ∙ lifted-sum p n 4 q (k * 2 ^ m) d (omega arith) kk
-    ∙ ap₂ sum (lifted-low p n 4 q (omega arith)) (sym (t .entry k k-lt)))
+    ∙ ap₂ sum (lifted-low p n 4 q (omega arith)) (sym (lowest-step p n k table t f k-lt)))
 
--- ---- what the machine's operations ask
-
-pub one-shifted : (n : ℕ) → n ≤ 22 → 1 * 2 ^ (n - 4) % 4294967296 ≡ 2 ^ (n - 4)
-one-shifted n h = let k : 1 + (n - 4) ≤ 32 = omega arith in shl-exact 1 (n - 4) 32 (omega arith) k ∙ one-mul (2 ^ (n - 4))
-
-pub not-none : (n : ℕ) → n ≤ 22 → 0 < 1 * 2 ^ (n - 4) % 4294967296
-not-none n h = rw (one-shifted n h) (pow-pos (n - 4))
-
-pub low-fits : (n r : ℕ) → n ≤ 22 → r % (1 * 2 ^ (n - 4) % 4294967296) < 262144
-low-fits n r h =
-    let m : 2 ^ (n - 4) ≤ 2 ^ 18 = pow-mono {j = 18} (omega arith) in
-    let l : r % 2 ^ (n - 4) < 2 ^ (n - 4) = mod-lt r (pow-pos (n - 4)) in
-    rw (one-shifted n h) (omega arith)
-
-pub place-lt : (n c r : ℕ) → 4 ≤ n → r < 2 ^ n → bitXor (r / 2 ^ (n - 4)) (c % 16) < 16
-place-lt n c r f l =
-    let e : 4 + (n - 4) ≡ n = omega arith in
-    let w : 2 ^ n ≡ 16 * 2 ^ (n - 4) = ap (λ (x : ℕ). 2 ^ x) (sym e) ∙ pow-add 2 4 (n - 4) in
-    let h : r / 2 ^ (n - 4) < 16 = div-lt-iff-lt-mul (pow-pos (n - 4)) .1 (omega arith) in
-    xor-lt 4 (r / 2 ^ (n - 4)) (c % 16) h (omega arith)
-
--- the value in the machine's operations
-pub semi-step : (p n c r v : ℕ) (table : List ℕ) → Stepped p n table → Degree p n → 4 ≤ n → n ≤ 22 → r < 2 ^ n
-    → v ≡ bitXor (r % (1 * 2 ^ (n - 4) % 4294967296) * 16) (getD table (bitXor (r / 2 ^ (n - 4)) (c % 16)) 0)
-    → (v ≡ pushed p n (c % 2) (pushed p n (c / 2 % 2) (pushed p n (c / 4 % 2) (pushed p n (c / 8 % 2) r)))) × (v < 2 ^ n)
-unfolding sum
-semi-step p n c r v table t d f h l e =
-    let x : v ≡ pushed p n (c % 2) (pushed p n (c / 2 % 2) (pushed p n (c / 4 % 2) (pushed p n (c / 8 % 2) r))) =
-    e ∙ ap (λ (y : ℕ). bitXor (r % y * 16) (getD table (bitXor (r / 2 ^ (n - 4)) (c % 16)) 0)) (one-shifted n h) ∙ semi-is p n c r table d f l t in
+pub semi-pushed-lt : (p n c r : ℕ) → Degree p n → r < 2 ^ n → semiPushed p n c r < 2 ^ n
+semi-pushed-lt p n c r d l =
     let a = pushed-lt p n (c / 8 % 2) r d (omega arith) l in
     let b = pushed-lt p n (c / 4 % 2) _ d (omega arith) a in
     let g = pushed-lt p n (c / 2 % 2) _ d (omega arith) b in
-    let y = pushed-lt p n (c % 2) _ d (omega arith) g in
-    (x, rw x y)
+    pushed-lt p n (c % 2) _ d (omega arith) g
 
--- ---- the tables
+-- ---- what the machine's operations ask
 
-rows-test : ℕ → ℕ → List ℕ → ℕ → Bool
-rows-test p n table t = eqb (getD table t 0) (lifted p n 4 (t * 2 ^ (n - 4)))
+pub one-shifted : (n j : ℕ) → n ≤ 22 → 1 * 2 ^ (n - j) % 4294967296 ≡ 2 ^ (n - j)
+one-shifted n j h = let k : 1 + (n - j) ≤ 32 = omega arith in shl-exact 1 (n - j) 32 (omega arith) k ∙ one-mul (2 ^ (n - j))
 
-pub rows-raised : Stepped 71956 16 (0 ∷ 6420 ∷ 12840 ∷ 11068 ∷ 25680 ∷ 32068 ∷ 22136 ∷ 20332 ∷ 51360 ∷ 53684 ∷ 64136 ∷ 58268 ∷ 44272 ∷ 46564 ∷ 40664 ∷ 34764 ∷ [])
-unfolding rows-test lifted pushed sum
-rows-raised = record { entry = λ t h. eqb→eq _ _ (at 16 (rows-test 71956 16 (0 ∷ 6420 ∷ 12840 ∷ 11068 ∷ 25680 ∷ 32068 ∷ 22136 ∷ 20332 ∷ 51360 ∷ 53684 ∷ 64136 ∷ 58268 ∷ 44272 ∷ 46564 ∷ 40664 ∷ 34764 ∷ [])) tt t h) }
+pub not-none : (n j : ℕ) → n ≤ 22 → 0 < 1 * 2 ^ (n - j) % 4294967296
+not-none n j h = rw (one-shifted n j h) (pow-pos (n - j))
 
-pub rows-twenty-two : Stepped 4788009 22 (0 ∷ 593705 ∷ 1187410 ∷ 1773947 ∷ 2374820 ∷ 2962317 ∷ 3547894 ∷ 4140511 ∷ 95841 ∷ 555336 ∷ 1271859 ∷ 1730330 ∷ 2443973 ∷ 2901484 ∷ 3626135 ∷ 4086718 ∷ [])
-unfolding rows-test lifted pushed sum
-rows-twenty-two = record { entry = λ t h. eqb→eq _ _ (at 16 (rows-test 4788009 22 (0 ∷ 593705 ∷ 1187410 ∷ 1773947 ∷ 2374820 ∷ 2962317 ∷ 3547894 ∷ 4140511 ∷ 95841 ∷ 555336 ∷ 1271859 ∷ 1730330 ∷ 2443973 ∷ 2901484 ∷ 3626135 ∷ 4086718 ∷ [])) tt t h) }
+-- what is left of a remainder without its j highest bits
+pub low-fits : (n j k r : ℕ) → n ≤ 22 → n - j ≤ k → r % (1 * 2 ^ (n - j) % 4294967296) < 2 ^ k
+low-fits n j k r h f =
+    let m : 2 ^ (n - j) ≤ 2 ^ k = pow-mono f in
+    let l : r % 2 ^ (n - j) < 2 ^ (n - j) = mod-lt r (pow-pos (n - j)) in
+    rw (one-shifted n j h) (omega arith)
 
-pub rows-sixteen : Stepped 107243 16 (0 ∷ 41707 ∷ 59197 ∷ 17878 ∷ 27793 ∷ 52858 ∷ 35756 ∷ 10567 ∷ 55586 ∷ 31689 ∷ 15903 ∷ 40180 ∷ 46515 ∷ 5976 ∷ 21134 ∷ 61541 ∷ [])
-unfolding rows-test lifted pushed sum
-rows-sixteen = record { entry = λ t h. eqb→eq _ _ (at 16 (rows-test 107243 16 (0 ∷ 41707 ∷ 59197 ∷ 17878 ∷ 27793 ∷ 52858 ∷ 35756 ∷ 10567 ∷ 55586 ∷ 31689 ∷ 15903 ∷ 40180 ∷ 46515 ∷ 5976 ∷ 21134 ∷ 61541 ∷ [])) tt t h) }
+-- the sum of the j highest bits and j new ones
+pub place-lt : (n j w r : ℕ) → j ≤ n → r < 2 ^ n → w < 2 ^ j → bitXor (r / 2 ^ (n - j)) w < 2 ^ j
+place-lt n j w r f l k =
+    let e : j + (n - j) ≡ n = omega arith in
+    let x : 2 ^ n ≡ 2 ^ j * 2 ^ (n - j) = ap (λ (x : ℕ). 2 ^ x) (sym e) ∙ pow-add 2 j (n - j) in
+    xor-lt j (r / 2 ^ (n - j)) w (div-lt-iff-lt-mul (pow-pos (n - j)) .1 (subst (λ (y : ℕ). r < y) x l)) k
+
+-- the value in the machine's operations
+pub semi-step : (p n c r v : ℕ) (steps : List ℕ) → Stepped p n steps → r < 2 ^ n
+    → v ≡ bitXor (r % (1 * 2 ^ (n - 4) % 4294967296) * 16) (getD steps (bitXor (r / 2 ^ (n - 4)) (c % 16)) 0)
+    → (v ≡ semiPushed p n c r) × (v < 2 ^ n)
+unfolding sum
+semi-step p n c r v steps s l e =
+    let d = s .divisor .degree in
+    let x : v ≡ semiPushed p n c r =
+    e ∙ ap (λ (y : ℕ). bitXor (r % y * 16) (getD steps (bitXor (r / 2 ^ (n - 4)) (c % 16)) 0)) (one-shifted n 4 (s .divisor .to))
+    ∙ semi-is p n c r steps d (s .from) l (s .table) in
+    (x, rw x (semi-pushed-lt p n c r d l))

@@ -2,11 +2,11 @@
 // once in four.
 // Inner: `slot_ordering` stands over it. It asks for a size and a mode in range and for a frame's semi-octets of their number.
 ghost use mathlib.Core.Path.{_≡_};
-ghost use Prim.Native.Nat.{_+_, _*_, _/_, _%_, _^_, _≤_, _<_};
+ghost use Prim.Native.Nat.{_+_, _*_, _/_, _%_, _^_, _<_};
 ghost use lib.ListN.{length};
 ghost use Rattle.slot_laws.specs.Sizes.{InRange, frameSize};
-ghost use Rattle.slot_laws.specs.Hash.{Degree, pushed, hash, bitsOf};
-ghost use Rattle.slot_hashing.specs.Inner.{Stepped, SteppedFour, semiPushed};
+ghost use Rattle.slot_laws.specs.Hash.{pushed, hash, bitsOf};
+ghost use Rattle.slot_hashing.specs.Inner.{Divisor, Stepped, semiPushed};
 ghost use Rattle.slot_laws.specs.Order.{firstHash, secondHash};
 
 // A.21, A.22 and A.23, bit i for x^i.
@@ -19,8 +19,8 @@ const SIXTEEN: u32 = 0x1_a2eb;
 // A.21 times x^2: a remainder by it has the sixteen bits that four semi-octets need, and is x^2 times the one by A.21.
 const RAISED: u32 = 0x1_1914;
 
-// Entry t is what the four highest bits t of a remainder come to, four powers higher.
-const ROWS_RAISED: [u32; 16] = [
+// Entry 16 k + t is what t, as semi-octet k of the sixteen highest bits of a remainder, comes to sixteen powers higher.
+const STEPS_RAISED: [u32; 64] = [
     0x0000,
     0x1914,
     0x3228,
@@ -37,48 +37,6 @@ const ROWS_RAISED: [u32; 16] = [
     0xb5e4,
     0x9ed8,
     0x87cc,
-];
-
-const ROWS_TWENTY_TWO: [u32; 16] = [
-    0x00_0000,
-    0x09_0f29,
-    0x12_1e52,
-    0x1b_117b,
-    0x24_3ca4,
-    0x2d_338d,
-    0x36_22f6,
-    0x3f_2ddf,
-    0x01_7661,
-    0x08_7948,
-    0x13_6833,
-    0x1a_671a,
-    0x25_4ac5,
-    0x2c_45ec,
-    0x37_5497,
-    0x3e_5bbe,
-];
-
-const ROWS_SIXTEEN: [u32; 16] = [
-    0x0000,
-    0xa2eb,
-    0xe73d,
-    0x45d6,
-    0x6c91,
-    0xce7a,
-    0x8bac,
-    0x2947,
-    0xd922,
-    0x7bc9,
-    0x3e1f,
-    0x9cf4,
-    0xb5b3,
-    0x1758,
-    0x528e,
-    0xf065,
-];
-
-// Entry 16 k + t is what the bits t come to, sixteen powers higher, k + 1 semi-octets above the lowest of the sixteen highest bits.
-const FOURS_RAISED: [u32; 48] = [
     0x0000,
     0x8854,
     0x09bc,
@@ -129,7 +87,23 @@ const FOURS_RAISED: [u32; 48] = [
     0xa348,
 ];
 
-const FOURS_TWENTY_TWO: [u32; 48] = [
+const STEPS_TWENTY_TWO: [u32; 64] = [
+    0x00_0000,
+    0x09_0f29,
+    0x12_1e52,
+    0x1b_117b,
+    0x24_3ca4,
+    0x2d_338d,
+    0x36_22f6,
+    0x3f_2ddf,
+    0x01_7661,
+    0x08_7948,
+    0x13_6833,
+    0x1a_671a,
+    0x25_4ac5,
+    0x2c_45ec,
+    0x37_5497,
+    0x3e_5bbe,
     0x00_0000,
     0x02_ecc2,
     0x05_d984,
@@ -180,7 +154,23 @@ const FOURS_TWENTY_TWO: [u32; 48] = [
     0x10_6f32,
 ];
 
-const FOURS_SIXTEEN: [u32; 48] = [
+const STEPS_SIXTEEN: [u32; 64] = [
+    0x0000,
+    0xa2eb,
+    0xe73d,
+    0x45d6,
+    0x6c91,
+    0xce7a,
+    0x8bac,
+    0x2947,
+    0xd922,
+    0x7bc9,
+    0x3e1f,
+    0x9cf4,
+    0xb5b3,
+    0x1758,
+    0x528e,
+    0xf065,
     0x0000,
     0x10af,
     0x215e,
@@ -233,71 +223,69 @@ const FOURS_SIXTEEN: [u32; 48] = [
 
 // The remainder one power higher and with the bit b at power n, reduced by p.
 fn push(p: u32, n: u32, b: u32, r: u32) -> u32
-    requires { ⌜ (Degree p n) × (n ≤ 22) × (b < 2) × (r < 2 ^ n) ⌝ }
-    ensures { λ v. ⌜ (v ≡ pushed p n b r) × (v < 2 ^ n) ⌝ }
+    requires { ⌜ Divisor p n ⌝ }
+    requires { ⌜ b < 2 ⌝ }
+    requires { ⌜ r < 2 ^ n ⌝ }
+    ensures { λ v. ⌜ v ≡ pushed p n b r ⌝ }
+    ensures { λ v. ⌜ v < 2 ^ n ⌝ }
 {
     let v = (2 * r) ^ (b << n);
     v ^ ((v >> n) * p)
 }
 
 // The four bits of a semi-octet at once: they and the four highest of the remainder enter as their sum.
-fn push_semi(rows: &[u32; 16], p: u32, n: u32, c: u32, r: u32) -> u32
-    requires { ⌜ (Stepped p n (now rows)) × (Degree p n) × (4 ≤ n) × (n ≤ 22) × (r < 2 ^ n) ⌝ }
-    ensures { λ v. ⌜ (v ≡ pushed p n (c % 2) (pushed p n (c / 2 % 2) (pushed p n (c / 4 % 2) (pushed p n (c / 8 % 2) r)))) × (v < 2 ^ n) ⌝ }
+fn push_semi(steps: &[u32; 64], p: u32, n: u32, c: u32, r: u32) -> u32
+    requires { ⌜ Stepped p n (now steps) ⌝ }
+    requires { ⌜ r < 2 ^ n ⌝ }
+    ensures { λ v. ⌜ v ≡ semiPushed p n c r ⌝ }
+    ensures { λ v. ⌜ v < 2 ^ n ⌝ }
 {
     let t = (r >> (n - 4)) ^ (c % 16);
-    ((r % (1 << (n - 4))) * 16) ^ rows[t as usize]
+    ((r % (1 << (n - 4))) * 16) ^ steps[t as usize]
 }
 
 // The hash of a row of semi-octets.
-fn hash_of(rows: &[u32; 16], p: u32, n: u32, s: &[u8]) -> u32
-    requires { ⌜ (Stepped p n (now rows)) × (Degree p n) × (4 ≤ n) × (n ≤ 22) ⌝ }
-    ensures { λ v. ⌜ (v ≡ hash p n (bitsOf (now (s .entry)))) × (v < 2 ^ n) ⌝ }
+fn hash_of(steps: &[u32; 64], p: u32, n: u32, s: &[u8]) -> u32
+    requires { ⌜ Stepped p n (now steps) ⌝ }
+    ensures { λ v. ⌜ v ≡ hash p n (bitsOf (now (s .entry))) ⌝ }
+    ensures { λ v. ⌜ v < 2 ^ n ⌝ }
 {
     let mut r: u32 = 0;
     let mut i = s.len();
     while 0 < i {
         i = i - 1;
-        r = push_semi(rows, p, n, s[i] as u32, r);
+        r = push_semi(steps, p, n, s[i] as u32, r);
     }
     r
 }
 
 // Four semi-octets at once, d of the highest powers: they and the sixteen highest bits of the remainder enter as their sum.
-fn push_four(
-    rows: &[u32; 16],
-    fours: &[u32; 48],
-    p: u32,
-    n: u32,
-    a: u32,
-    b: u32,
-    c: u32,
-    d: u32,
-    r: u32,
-) -> u32
-    requires { ⌜ (Stepped p n (now rows)) × (SteppedFour p n (now fours)) × (Degree p n) × (16 ≤ n) × (n ≤ 22) × (r < 2 ^ n) ⌝ }
-    ensures { λ v. ⌜ (v ≡ semiPushed p n a (semiPushed p n b (semiPushed p n c (semiPushed p n d r)))) × (v < 2 ^ n) ⌝ }
+fn push_four(steps: &[u32; 64], p: u32, n: u32, a: u32, b: u32, c: u32, d: u32, r: u32) -> u32
+    requires { ⌜ Stepped p n (now steps) ⌝ }
+    requires { ⌜ r < 2 ^ n ⌝ }
+    ensures { λ v. ⌜ v ≡ semiPushed p n a (semiPushed p n b (semiPushed p n c (semiPushed p n d r))) ⌝ }
+    ensures { λ v. ⌜ v < 2 ^ n ⌝ }
 {
     let w = a % 16 + 16 * (b % 16) + 256 * (c % 16) + 4096 * (d % 16);
     let t = (r >> (n - 16)) ^ w;
     let kept = (r % (1 << (n - 16))) * 65536;
-    let upper = fours[(32 + t / 4096) as usize] ^ fours[(16 + t / 256 % 16) as usize];
-    let lower = fours[(t / 16 % 16) as usize] ^ rows[(t % 16) as usize];
+    let upper = steps[(48 + t / 4096) as usize] ^ steps[(32 + t / 256 % 16) as usize];
+    let lower = steps[(16 + t / 16 % 16) as usize] ^ steps[(t % 16) as usize];
     (kept ^ upper) ^ lower
 }
 
 // The hash of a row of semi-octets, by fours; those of the highest powers that make no four come first.
-fn hash_by_fours(rows: &[u32; 16], fours: &[u32; 48], p: u32, n: u32, s: &[u8]) -> u32
-    requires { ⌜ (Stepped p n (now rows)) × (SteppedFour p n (now fours)) × (Degree p n) × (16 ≤ n) × (n ≤ 22) ⌝ }
-    ensures { λ v. ⌜ (v ≡ hash p n (bitsOf (now (s .entry)))) × (v < 2 ^ n) ⌝ }
+fn hash_by_fours(steps: &[u32; 64], p: u32, n: u32, s: &[u8]) -> u32
+    requires { ⌜ Stepped p n (now steps) ⌝ }
+    ensures { λ v. ⌜ v ≡ hash p n (bitsOf (now (s .entry))) ⌝ }
+    ensures { λ v. ⌜ v < 2 ^ n ⌝ }
 {
     let mut i = s.len() / 4 * 4;
-    let mut r = hash_of(rows, p, n, &s[i..]);
+    let mut r = hash_of(steps, p, n, &s[i..]);
     while 0 < i {
         i = i - 4;
         r = push_four(
-            rows,
-            fours,
+            steps,
             p,
             n,
             s[i] as u32,
@@ -312,15 +300,20 @@ fn hash_by_fours(rows: &[u32; 16], fours: &[u32; 48], p: u32, n: u32, s: &[u8]) 
 
 // The request's bits are those of the lowest powers, so they are pushed last.
 fn with_request(p: u32, n: u32, request: u32, r: u32) -> u32
-    requires { ⌜ (Degree p n) × (n ≤ 22) × (r < 2 ^ n) ⌝ }
-    ensures { λ v. ⌜ (v ≡ pushed p n (request % 2) (pushed p n (request / 2 % 2) r)) × (v < 2 ^ n) ⌝ }
+    requires { ⌜ Divisor p n ⌝ }
+    requires { ⌜ r < 2 ^ n ⌝ }
+    ensures { λ v. ⌜ v ≡ pushed p n (request % 2) (pushed p n (request / 2 % 2) r) ⌝ }
+    ensures { λ v. ⌜ v < 2 ^ n ⌝ }
 {
     push(p, n, request % 2, push(p, n, request / 2 % 2, r))
 }
 
+// The first hash, over the request and the frame without the partial concealment block.
 pub fn first_hash(size: usize, mode: usize, request: u32, a: &[u8]) -> u32
-    requires { ⌜ (InRange size mode) × (length (now a) ≡ 2 * frameSize size mode) ⌝ }
-    ensures { λ v. ⌜ (v ≡ firstHash size mode request (now (a .entry))) × (v < 4194304) ⌝ }
+    requires { ⌜ InRange size mode ⌝ }
+    requires { ⌜ length (now a) ≡ 2 * frameSize size mode ⌝ }
+    ensures { λ v. ⌜ v ≡ firstHash size mode request (now (a .entry)) ⌝ }
+    ensures { λ v. ⌜ v < 4194304 ⌝ }
 {
     let e = 2 * slot_sizes::frame_bytes(size, mode) - slot_sizes::conceal_size(size, mode);
     match size {
@@ -328,21 +321,23 @@ pub fn first_hash(size: usize, mode: usize, request: u32, a: &[u8]) -> u32
             FOURTEEN,
             14,
             request,
-            hash_by_fours(&ROWS_RAISED, &FOURS_RAISED, RAISED, 16, &a[..e]) / 4,
+            hash_by_fours(&STEPS_RAISED, RAISED, 16, &a[..e]) / 4,
         ),
         _ => with_request(
             TWENTY_TWO,
             22,
             request,
-            hash_by_fours(&ROWS_TWENTY_TWO, &FOURS_TWENTY_TWO, TWENTY_TWO, 22, &a[..e]),
+            hash_by_fours(&STEPS_TWENTY_TWO, TWENTY_TWO, 22, &a[..e]),
         ),
     }
 }
 
+// The second hash, over the partial concealment block.
 pub fn second_hash(size: usize, mode: usize, a: &[u8]) -> u32
-    requires { ⌜ (InRange size mode) × (length (now a) ≡ 2 * frameSize size mode) ⌝ }
+    requires { ⌜ InRange size mode ⌝ }
+    requires { ⌜ length (now a) ≡ 2 * frameSize size mode ⌝ }
     ensures { λ v. ⌜ v ≡ secondHash size mode (now (a .entry)) ⌝ }
 {
     let e = 2 * slot_sizes::frame_bytes(size, mode) - slot_sizes::conceal_size(size, mode);
-    hash_by_fours(&ROWS_SIXTEEN, &FOURS_SIXTEEN, SIXTEEN, 16, &a[e..])
+    hash_by_fours(&STEPS_SIXTEEN, SIXTEEN, 16, &a[e..])
 }

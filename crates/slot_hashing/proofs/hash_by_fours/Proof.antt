@@ -10,10 +10,10 @@ use Rattle.slot_hashing.proofs.hash_by_fours.Statement.{statement}
 use Rattle.slot_hashing.proofs.hash_by_fours.Tie as tie
 
 abbrev Inv-loop : tie.InvT-loop
-Inv-loop rows fours p n s i₀ r₀ i r = (i ≤ length s) × (i % 4 ≡ 0) × (r ≡ hash p n (bitsOf (drop i s))) × (r < 2 ^ n)
+Inv-loop steps p n s i₀ r₀ i r = (i ≤ length s) × (i % 4 ≡ 0) × (r ≡ hash p n (bitsOf (drop i s))) × (r < 2 ^ n)
 
 abbrev μ-loop : tie.MeasureT-loop
-μ-loop rows fours p n s i₀ r₀ i r = i
+μ-loop steps p n s i₀ r₀ i r = i
 
 loop-holds : tie.Need-loop-holds Inv-loop μ-loop
 loop-holds c =

@@ -11,10 +11,10 @@ use Rattle.slot_hashing.proofs.hash_of.Statement.{statement}
 use Rattle.slot_hashing.proofs.hash_of.Tie as tie
 
 abbrev Inv-loop : tie.InvT-loop
-Inv-loop rows p n s r₀ i₀ r i = (i ≤ length s) × (r ≡ hash p n (bitsOf (drop i s))) × (r < 2 ^ n)
+Inv-loop steps p n s r₀ i₀ r i = (i ≤ length s) × (r ≡ hash p n (bitsOf (drop i s))) × (r < 2 ^ n)
 
 abbrev μ-loop : tie.MeasureT-loop
-μ-loop rows p n s r₀ i₀ r i = i
+μ-loop steps p n s r₀ i₀ r i = i
 
 loop-holds : tie.Need-loop-holds Inv-loop μ-loop
 loop-holds c = let a = c .before .args in (omega arith, hash-first (a .p) (a .n) (a .s .now), pow-pos (a .n))
