@@ -11,7 +11,6 @@ use lib.Dec.{leb, eqb}
 use lib.ListN.{length, take, drop, replicate, length-append}
 use lib.Seq.{take-at, drop-at}
 use borrow.Author.Tests.{lt-ltb, leb-true, le-leb}
-use Rattle.record.specs.declared.Counted.the-variants as counts
 use Rattle.record_bytes.specs.declared.Walked.the-variants as walked
 use Rattle.record_bytes.specs.Layout.{RecordEntry, big, trailer, entryBytes, entriesBytes, recordBytes, inRange, EntryInRange, IsRecord, most}
 use Rattle.record_bytes.specs.Reading.{number, readRecord}
@@ -33,14 +32,14 @@ read-record s es r = ap readRecord (r .bytes) ∙ read-bytes es (r .ranges) (sub
 pub record-exactly : (s : List ℕ) (es : List RecordEntry) → Bytes s → (readRecord s ≡ some es) ↔ IsRecord s es
 record-exactly s es b = (is-read s es b, read-record s es)
 
-means-of : (s : List ℕ) (n : ℕ) (v : Located) → Bytes s → (o : Option (List RecordEntry)) → readRecord s ≡ o → walkOf o 0 ≡ walked.Whole n v → CountMeans (counts.Entries n) s
+means-of : (s : List ℕ) (n : ℕ) (v : Located) → Bytes s → (o : Option (List RecordEntry)) → readRecord s ≡ o → walkOf o 0 ≡ walked.Whole n v → CountMeans 0 n s
 means-of s n v b none q w = let z : _≡_ {A = ℕ} 0 1 = cc in absurd (omega arith)
 means-of s n v b (some es) q w = (es, is-read s es b q, cc)
 
-pub count-means : (s : List ℕ) (n : ℕ) (v : Located) → Bytes s → walkOf (readRecord s) 0 ≡ walked.Whole n v → CountMeans (counts.Entries n) s
+pub count-means : (s : List ℕ) (n : ℕ) (v : Located) → Bytes s → walkOf (readRecord s) 0 ≡ walked.Whole n v → CountMeans 0 n s
 count-means s n v b w = means-of s n v b (readRecord s) refl w
 
-pub none-means : (s : List ℕ) → walkOf (readRecord s) 0 ≡ walked.Broken → CountMeans counts.NotRecord s
+pub none-means : (s : List ℕ) → walkOf (readRecord s) 0 ≡ walked.Broken → CountMeans 7 0 s
 none-means s w es r =
     let q : readRecord s ≡ some es = read-record s es r in
     let t : walkOf (some es) 0 ≡ walked.Broken = rw q at w in

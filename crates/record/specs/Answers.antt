@@ -92,6 +92,10 @@ frameOf (some es) place = frameAt es place
 unfoldable pub framePart : List ℕ → ℕ → List ℕ
 framePart s place = frameOf (readRecord s) place
 
+-- the entry that an addition asks for
+abbrev pub asked : List ℕ → ℕ → ℕ → RecordEntry
+asked frame request count = record { frame = frame; request = request; count = count }
+
 -- "the used length (above the buffer's length or above 65,536: 1) and an entry (field out of range, or a frame not of its length: 1)"
 unfoldable pub mayAddTo : ℕ → ℕ → ℕ → ℕ → ℕ → ℕ → Bool
 mayAddTo room used frame request count size = (leb used room && leb used most) && (inRange request count size && eqb size frame)

@@ -2,20 +2,16 @@
 -- an entry called stored is read back. Assumes nothing.
 use mathlib.Core.Path.{_≡_}
 use mathlib.Core.List.{List}
-use Prim.Native.Nat.{ℕ, suc, _-_, _<_}
+use Prim.Native.Nat.{ℕ, zero, suc, _-_, _<_}
 use lib.ListN.{length, take, drop}
 use Rattle.record_bytes.specs.Layout.{RecordEntry, entryBytes, IsRecord}
 use Rattle.record.specs.Answers.{accepted, EntryAnswer, entriesAnswer, entryAnswer, framePart}
 use Rattle.record_bytes.specs.Located.{located}
-use Rattle.record.specs.declared.Counted.{Counted}
-use Rattle.record.specs.declared.Counted.the-variants as counted
-use Rattle.record.specs.declared.Added.{Added}
-use Rattle.record.specs.declared.Added.the-variants as added
 
--- a record of n entries; or no list of entries at all has these bytes
-abbrev pub CountMeans : Counted → List ℕ → Type 0
-CountMeans (counted.Entries n) s = (es : List RecordEntry) × IsRecord s es × (n ≡ length es)
-CountMeans counted.NotRecord s = (es : List RecordEntry) → IsRecord s es → ⊥
+-- accepted with n: a record of n entries; refused: no list of entries at all has these bytes
+abbrev pub CountMeans : ℕ → ℕ → List ℕ → Type 0
+CountMeans zero n s = (es : List RecordEntry) × IsRecord s es × (n ≡ length es)
+CountMeans (suc number) n s = (es : List RecordEntry) → IsRecord s es → ⊥
 
 -- an entry that is found, whose frame starts at `start`
 abbrev pub entryFrom : RecordEntry → ℕ → EntryAnswer
@@ -39,8 +35,7 @@ pub record Stored (buffer after : List ℕ) (used next : ℕ) (e : RecordEntry) 
   pub front : take (used - 4) after ≡ take (used - 4) buffer
   pub past : drop next after ≡ drop next buffer
 
-abbrev pub StoredBy : Added → List ℕ → List ℕ → ℕ → RecordEntry → Type 0
-StoredBy (added.Used next) buffer after used e = Stored buffer after used next e
-StoredBy added.BadSetting buffer after used e = after ≡ buffer
-StoredBy added.NotRecord buffer after used e = after ≡ buffer
-StoredBy added.NoRoom buffer after used e = after ≡ buffer
+-- accepted with the new used length: the entry is stored, and all older ones read as before; refused: the buffer is as lent
+abbrev pub StoredBy : ℕ → ℕ → List ℕ → List ℕ → ℕ → RecordEntry → Type 0
+StoredBy zero next buffer after used e = Stored buffer after used next e
+StoredBy (suc number) next buffer after used e = after ≡ buffer

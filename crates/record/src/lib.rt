@@ -2,7 +2,7 @@
 // It stands over `record_bytes`. Each public function is total and equals its definition in specs/Answers.antt, the lent buffer too;
 // specs/Layout.antt of `record_bytes` says which bytes a list of entries is. Nothing is written before the last test.
 ghost use mathlib.Core.Path.{_≡_};
-ghost use Rattle.record.specs.Answers.{madeNumber, newNumber, newBuffer, countedAnswer, entriesAnswer, foundAnswer, entryAnswer, framePart, mayAddTo, addedAnswer, addAnswer, addBuffer};
+ghost use Rattle.record.specs.Answers.{madeNumber, newNumber, newBuffer, countedAnswer, entriesAnswer, foundAnswer, entryAnswer, framePart, mayAddTo, addedAnswer, addAnswer, addBuffer, asked};
 ghost use Rattle.record.specs.Meaning.{CountMeans, StoredBy};
 pub use record_bytes::Located;
 use record_bytes::Walked;
@@ -108,7 +108,7 @@ pub fn new(buffer: &mut [u8]) -> Made
 // The number of entries of a record.
 pub fn entries(bytes: &[u8]) -> Counted
     ensures { λ r. ⌜ countedAnswer r ≡ entriesAnswer (now (bytes .entry)) ⌝ }
-    ensures { λ r. ⌜ CountMeans r (now (bytes .entry)) ⌝ }
+    ensures { λ r. ⌜ CountMeans (countedAnswer r .number) (countedAnswer r .value) (now (bytes .entry)) ⌝ }
 {
     let walked = walk(bytes, 0);
     match walked {
@@ -171,9 +171,9 @@ pub fn add(
     count: u32,
     length: u32,
 ) -> Added
-    ensures { λ r. ⌜ addedAnswer r ≡ addAnswer (now (buffer .entry)) used (record { frame = now (frame .entry); request = request; count = count }) length ⌝ }
-    ensures { λ r. ⌜ now (buffer .exit) ≡ addBuffer (now (buffer .entry)) used (record { frame = now (frame .entry); request = request; count = count }) length ⌝ }
-    ensures { λ r. ⌜ StoredBy r (now (buffer .entry)) (now (buffer .exit)) used (record { frame = now (frame .entry); request = request; count = count }) ⌝ }
+    ensures { λ r. ⌜ addedAnswer r ≡ addAnswer (now (buffer .entry)) used (asked (now (frame .entry)) request count) length ⌝ }
+    ensures { λ r. ⌜ now (buffer .exit) ≡ addBuffer (now (buffer .entry)) used (asked (now (frame .entry)) request count) length ⌝ }
+    ensures { λ r. ⌜ StoredBy (addedAnswer r .number) (addedAnswer r .value) (now (buffer .entry)) (now (buffer .exit)) used (asked (now (frame .entry)) request count) ⌝ }
 {
     if may_add(buffer.len(), used, frame.len(), request, count, length) {
         let walked = walk(&buffer[..used], 0);

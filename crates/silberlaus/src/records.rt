@@ -1,7 +1,8 @@
 // The session record under C names: new, entries, entry and add. It stands over `silberlaus_records`.
 ghost use mathlib.Core.Path.{_≡_};
-ghost use Rattle.record.specs.Answers.{newNumber, newBuffer, entriesAnswer, entryAnswer, addAnswer, addBuffer};
-ghost use Rattle.silberlaus_records.specs.Records.{answer, entryGiven, added, CountMeans, StoredBy};
+ghost use Rattle.record.specs.Answers.{newNumber, newBuffer, entriesAnswer, entryAnswer, asked, addAnswer, addBuffer};
+ghost use Rattle.record.specs.Meaning.{CountMeans, StoredBy};
+ghost use Rattle.silberlaus_records.specs.Records.{answer, entryGiven};
 use silberlaus_records::SilberlausAdded;
 use silberlaus_records::SilberlausEntries;
 use silberlaus_records::SilberlausEntry;
@@ -38,9 +39,9 @@ pub extern "C" fn silberlaus_record_add(
     count: u32,
     length: u32,
 ) -> SilberlausAdded
-    ensures { λ r. ⌜ answer (r .number) (r .used) ≡ addAnswer (now (buffer .entry)) used (added (now (frame .entry)) request count) length ⌝ }
-    ensures { λ r. ⌜ now (buffer .exit) ≡ addBuffer (now (buffer .entry)) used (added (now (frame .entry)) request count) length ⌝ }
-    ensures { λ r. ⌜ StoredBy (r .number) (r .used) (now (buffer .entry)) (now (buffer .exit)) used (added (now (frame .entry)) request count) ⌝ }
+    ensures { λ r. ⌜ answer (r .number) (r .used) ≡ addAnswer (now (buffer .entry)) used (asked (now (frame .entry)) request count) length ⌝ }
+    ensures { λ r. ⌜ now (buffer .exit) ≡ addBuffer (now (buffer .entry)) used (asked (now (frame .entry)) request count) length ⌝ }
+    ensures { λ r. ⌜ StoredBy (r .number) (r .used) (now (buffer .entry)) (now (buffer .exit)) used (asked (now (frame .entry)) request count) ⌝ }
 {
     silberlaus_records::add(buffer, used, frame, request, count, length)
 }

@@ -2,8 +2,9 @@
 // `record`.
 // Inner: `silberlaus` stands over it. It asks nothing.
 ghost use mathlib.Core.Path.{_≡_};
-ghost use Rattle.record.specs.Answers.{newNumber, newBuffer, entriesAnswer, entryAnswer, addAnswer, addBuffer};
-ghost use Rattle.silberlaus_records.specs.Records.{answer, entryGiven, added, CountMeans, StoredBy};
+ghost use Rattle.record.specs.Answers.{newNumber, newBuffer, entriesAnswer, entryAnswer, asked, addAnswer, addBuffer};
+ghost use Rattle.record.specs.Meaning.{CountMeans, StoredBy};
+ghost use Rattle.silberlaus_records.specs.Records.{answer, entryGiven};
 use record::Added;
 use record::Counted;
 use record::Found;
@@ -101,9 +102,9 @@ pub fn add(
     count: u32,
     length: u32,
 ) -> SilberlausAdded
-    ensures { λ r. ⌜ answer (r .number) (r .used) ≡ addAnswer (now (buffer .entry)) used (added (now (frame .entry)) request count) length ⌝ }
-    ensures { λ r. ⌜ now (buffer .exit) ≡ addBuffer (now (buffer .entry)) used (added (now (frame .entry)) request count) length ⌝ }
-    ensures { λ r. ⌜ StoredBy (r .number) (r .used) (now (buffer .entry)) (now (buffer .exit)) used (added (now (frame .entry)) request count) ⌝ }
+    ensures { λ r. ⌜ answer (r .number) (r .used) ≡ addAnswer (now (buffer .entry)) used (asked (now (frame .entry)) request count) length ⌝ }
+    ensures { λ r. ⌜ now (buffer .exit) ≡ addBuffer (now (buffer .entry)) used (asked (now (frame .entry)) request count) length ⌝ }
+    ensures { λ r. ⌜ StoredBy (r .number) (r .used) (now (buffer .entry)) (now (buffer .exit)) used (asked (now (frame .entry)) request count) ⌝ }
 {
     let added = record::add(buffer, used, frame, request, count, length);
     match added {
