@@ -80,7 +80,8 @@ fn plain(out: &mut [u8], at: usize, line: &[u8]) -> usize
 // Where the line that starts at `from` ends.
 fn line_end(text: &[u8], from: usize) -> usize
     requires { ⌜ from ≤ length (now text) ⌝ }
-    ensures { λ r. ⌜ (from ≤ r) × (r ≤ length (now (text .entry))) ⌝ }
+    ensures { λ r. ⌜ from ≤ r ⌝ }
+    ensures { λ r. ⌜ r ≤ length (now (text .entry)) ⌝ }
 {
     let mut end = from;
     while end < text.len() {

@@ -74,7 +74,8 @@ fn receive(
     buffer: &mut [u8],
     t: Tally,
 ) -> Tally
-    requires { ⌜ (trip .size ≤ 400) × (length (now out) ≤ 400) ⌝ }
+    requires { ⌜ trip .size ≤ 400 ⌝ }
+    requires { ⌜ length (now out) ≤ 400 ⌝ }
 {
     let request = air::request_at(trip.place);
     let changes = air::changes_at(trip.place, trip.size, trip.mode);

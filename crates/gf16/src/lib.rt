@@ -56,16 +56,20 @@ impl SemiOctet {
 
 // a where the digit d is 1, else 0.
 fn term(d: u8, a: u8) -> u8
-    requires { ⌜ (d < 2) × (a < 128) ⌝ }
-    ensures { λ r. ⌜ (r ≡ d * a) × (r < 128) ⌝ }
+    requires { ⌜ d < 2 ⌝ }
+    requires { ⌜ a < 128 ⌝ }
+    ensures { λ r. ⌜ r ≡ d * a ⌝ }
+    ensures { λ r. ⌜ r < 128 ⌝ }
 {
     d * a
 }
 
 // The product of two polynomials of degree at most 3, not reduced.
 fn expand(a: u8, b: u8) -> u8
-    requires { ⌜ (a < 16) × (b < 16) ⌝ }
-    ensures { λ r. ⌜ (r ≡ expanded a b) × (r < 128) ⌝ }
+    requires { ⌜ a < 16 ⌝ }
+    requires { ⌜ b < 16 ⌝ }
+    ensures { λ r. ⌜ r ≡ expanded a b ⌝ }
+    ensures { λ r. ⌜ r < 128 ⌝ }
 {
     (term(b % 2, a) ^ term(b / 2 % 2, a * 2)) ^ (term(b / 4 % 2, a * 4) ^ term(b / 8 % 2, a * 8))
 }
@@ -81,7 +85,8 @@ fn reduce(v: u8) -> u8
 }
 
 fn multiplied(a: u8, b: u8) -> u8
-    requires { ⌜ (a < 16) × (b < 16) ⌝ }
+    requires { ⌜ a < 16 ⌝ }
+    requires { ⌜ b < 16 ⌝ }
     ensures { λ r. ⌜ r ≡ reduced (expanded a b) ⌝ }
 {
     reduce(expand(a, b))

@@ -14,7 +14,8 @@ use Rattle.record_bytes.specs.declared.Walked.the-variants as walked
 use Rattle.record_bytes.specs.Layout.{RecordEntry, big, trailer, entryBytes, entriesBytes, recordBytes, inRange, AllInRange, IsRecord, most}
 use Rattle.record_bytes.specs.Reading.{readRecord}
 use Rattle.record_bytes.specs.Located.{located, nowhere, locate}
-use Rattle.record.specs.Answers.{accepted, refused, EntryAnswer, newNumber, newBuffer, entriesOf, entriesAnswer, entryOf, entryAnswer, frameAt, frameOf, framePart, mayAddTo, mayAdd, hasRoom, addOf, addAnswer, storedOf, addBuffer}
+use Rattle.record.specs.Answers.{accepted, refused, EntryAnswer, newNumber, newBuffer, entriesOf, entriesAnswer, entryOf, entryAnswer,
+    frameAt, frameOf, framePart, mayAddTo, mayAdd, hasRoom, addOf, addAnswer, storedOf, addBuffer}
 use Rattle.record_bytes.specs.Steps.{walkOf, put, tailOf}
 use Rattle.record_bytes.specs.declared.Located.{Located}
 use Rattle.record_bytes.proofs.Numbers.{Bytes, length-big}
@@ -60,14 +61,16 @@ locate-past (e ∷ es) (suc place) start h = locate-past es place (start + (leng
 abbrev answer : ℕ → Located → EntryAnswer
 answer n v = record { number = n; entry = v }
 
-found-of : (o : Option (List RecordEntry)) (place n : ℕ) (v : Located) → place < n → walkOf o place ≡ walked.Whole n v → answer 0 v ≡ entryOf o place
+found-of : (o : Option (List RecordEntry)) (place n : ℕ) (v : Located) → place < n → walkOf o place ≡ walked.Whole n v
+    → answer 0 v ≡ entryOf o place
 found-of none place n v h w = let z : _≡_ {A = ℕ} 0 1 = cc in absurd (omega arith)
 found-of (some es) place n v h w =
     let z : n ≡ length es = cc in
     let l : v ≡ locate es place 0 = cc in
     simp (lt-ltb place (length es) (omega arith), l)
 
-past-of : (o : Option (List RecordEntry)) (place n : ℕ) (v : Located) → n ≤ place → walkOf o place ≡ walked.Whole n v → answer 1 nowhere ≡ entryOf o place
+past-of : (o : Option (List RecordEntry)) (place n : ℕ) (v : Located) → n ≤ place → walkOf o place ≡ walked.Whole n v
+    → answer 1 nowhere ≡ entryOf o place
 past-of none place n v h w = let z : _≡_ {A = ℕ} 0 1 = cc in absurd (omega arith)
 past-of (some es) place n v h w =
     let z : n ≡ length es = cc in
@@ -77,15 +80,18 @@ unfound-of : (o : Option (List RecordEntry)) (place : ℕ) → walkOf o place �
 unfound-of none place w = refl
 unfound-of (some es) place w = let z : _≡_ {A = ℕ} 0 1 = cc in absurd (omega arith)
 
-pub found : (s : List ℕ) (place n : ℕ) (v : Located) → place < n → walkOf (readRecord s) place ≡ walked.Whole n v → record { number = 0; entry = v } ≡ entryAnswer s place
+pub found : (s : List ℕ) (place n : ℕ) (v : Located) → place < n → walkOf (readRecord s) place ≡ walked.Whole n v
+    → record { number = 0; entry = v } ≡ entryAnswer s place
 unfolding entryAnswer
 found s = found-of (readRecord s)
 
-pub past : (s : List ℕ) (place n : ℕ) (v : Located) → n ≤ place → walkOf (readRecord s) place ≡ walked.Whole n v → record { number = 1; entry = nowhere } ≡ entryAnswer s place
+pub past : (s : List ℕ) (place n : ℕ) (v : Located) → n ≤ place → walkOf (readRecord s) place ≡ walked.Whole n v
+    → record { number = 1; entry = nowhere } ≡ entryAnswer s place
 unfolding entryAnswer
 past s = past-of (readRecord s)
 
-pub unfound : (s : List ℕ) (place : ℕ) → walkOf (readRecord s) place ≡ walked.Broken → record { number = 7; entry = nowhere } ≡ entryAnswer s place
+pub unfound : (s : List ℕ) (place : ℕ) → walkOf (readRecord s) place ≡ walked.Broken
+    → record { number = 7; entry = nowhere } ≡ entryAnswer s place
 unfolding entryAnswer
 unfound s = unfound-of (readRecord s)
 
@@ -104,7 +110,8 @@ frame-first e start p q h =
     let l : length (p ++ (e .frame ++ (trailer e ++ q))) ≡ length p + (length (e .frame) + length (trailer e ++ q)) =
     length-append p (e .frame ++ (trailer e ++ q)) ∙ ap (λ (n : ℕ). length p + n) (length-append (e .frame) (trailer e ++ q)) in
     rw a (record {
-      bytes = ap (take (length (e .frame))) (drop-at p (e .frame ++ (trailer e ++ q)) start h) ∙ take-at (e .frame) (trailer e ++ q) (length (e .frame)) refl;
+      bytes = ap (take (length (e .frame))) (drop-at p (e .frame ++ (trailer e ++ q)) start h)
+          ∙ take-at (e .frame) (trailer e ++ q) (length (e .frame)) refl;
       within = omega arith;
     })
 
@@ -112,30 +119,38 @@ located-frame : (es : List RecordEntry) (place start : ℕ) (p q : List ℕ) →
     → FrameIn (p ++ (entriesBytes es ++ q)) (locate es place start) (frameAt es place)
 unfolding entriesBytes
 located-frame [] place start p q h k = absurd (omega arith)
-located-frame (e ∷ es) zero start p q h k = rw (append-assoc (entryBytes e) (entriesBytes es) q) (frame-first e start p (entriesBytes es ++ q) h)
+located-frame (e ∷ es) zero start p q h k = rw (append-assoc (entryBytes e) (entriesBytes es) q)
+    (frame-first e start p (entriesBytes es ++ q) h)
 located-frame (e ∷ es) (suc place) start p q h k =
     let z : p ++ ((entryBytes e ++ entriesBytes es) ++ q) ≡ (p ++ entryBytes e) ++ (entriesBytes es ++ q) =
-    ap (λ (l : List ℕ). p ++ l) (append-assoc (entryBytes e) (entriesBytes es) q) ∙ sym (append-assoc p (entryBytes e) (entriesBytes es ++ q)) in
-    let l : length (p ++ entryBytes e) ≡ start + (length (e .frame) + 4) = length-append p (entryBytes e) ∙ ap (λ (n : ℕ). length p + n) (length-entry e) ∙ ap (λ (n : ℕ). n + (length (e .frame) + 4)) h in
+    ap (λ (l : List ℕ). p ++ l) (append-assoc (entryBytes e) (entriesBytes es) q)
+        ∙ sym (append-assoc p (entryBytes e) (entriesBytes es ++ q)) in
+    let l : length (p ++ entryBytes e) ≡ start + (length (e .frame) + 4) =
+        length-append p (entryBytes e) ∙ ap (λ (n : ℕ). length p + n) (length-entry e) ∙ ap (λ (n : ℕ). n + (length (e .frame) + 4)) h in
     rw z (located-frame es place (start + (length (e .frame) + 4)) (p ++ entryBytes e) q l (omega arith))
 
 number-of : {a b : EntryAnswer} → a ≡ b → a .number ≡ b .number
 number-of e = ap (λ (x : EntryAnswer). x .number) e
 
-found-frame : (s : List ℕ) (place : ℕ) (v : Located) (es : List RecordEntry) (b : Bool) → ltb place (length es) ≡ b → _≡_ {A = ℕ} (cond b 0 1) 0 → locate es place 0 ≡ v → IsRecord s es
+found-frame : (s : List ℕ) (place : ℕ) (v : Located) (es : List RecordEntry) (b : Bool) → ltb place (length es) ≡ b
+    → _≡_ {A = ℕ} (cond b 0 1) 0 → locate es place 0 ≡ v → IsRecord s es
     → FrameIn s v (frameAt es place)
 unfolding recordBytes
 found-frame s place v es true t n l r =
-    let i : FrameIn (entriesBytes es ++ big 4 (length es)) (locate es place 0) (frameAt es place) = located-frame es place 0 [] (big 4 (length es)) refl (ltb-true place (length es) t) in
+    let i : FrameIn (entriesBytes es ++ big 4 (length es)) (locate es place 0) (frameAt es place) =
+        located-frame es place 0 [] (big 4 (length es)) refl (ltb-true place (length es) t) in
     rw (r .bytes, ← l) i
 found-frame s place v es false t n l r = absurd (omega arith)
 
-frame-of : (s : List ℕ) (place : ℕ) (v : Located) → Bytes s → (o : Option (List RecordEntry)) → readRecord s ≡ o → answer 0 v ≡ entryOf o place → FrameIn s v (frameOf o place)
+frame-of : (s : List ℕ) (place : ℕ) (v : Located) → Bytes s → (o : Option (List RecordEntry)) → readRecord s ≡ o
+    → answer 0 v ≡ entryOf o place → FrameIn s v (frameOf o place)
 frame-of s place v b none q r = let z : _≡_ {A = ℕ} 0 7 = number-of r in absurd (omega arith)
 frame-of s place v b (some es) q r =
-    found-frame s place v es (ltb place (length es)) refl (sym (number-of r)) (sym (ap (λ (x : EntryAnswer). x .entry) r)) (is-read s es b q)
+    found-frame s place v es (ltb place (length es)) refl (sym (number-of r)) (sym (ap (λ (x : EntryAnswer). x .entry) r))
+        (is-read s es b q)
 
-pub frame-found : (s : List ℕ) (place : ℕ) (v : Located) → Bytes s → record { number = 0; entry = v } ≡ entryAnswer s place → FrameIn s v (framePart s place)
+pub frame-found : (s : List ℕ) (place : ℕ) (v : Located) → Bytes s → record { number = 0; entry = v } ≡ entryAnswer s place
+    → FrameIn s v (framePart s place)
 unfolding entryAnswer framePart
 frame-found s place v b r = frame-of s place v b (readRecord s) refl r
 
@@ -159,7 +174,8 @@ frame-none s = frame-not-of (readRecord s)
 
 -- ---- an entry's frame for the frame reader
 
-frame-ranged : (es : List RecordEntry) (place : ℕ) → AllInRange es → place < length es → (20 ≤ length (frameAt es place)) × (length (frameAt es place) ≤ 400)
+frame-ranged : (es : List RecordEntry) (place : ℕ) → AllInRange es → place < length es
+    → (20 ≤ length (frameAt es place)) × (length (frameAt es place) ≤ 400)
 frame-ranged [] place r h = absurd (omega arith)
 frame-ranged (e ∷ es) zero r h = let k = in-range-of (e .request) (e .count) (length (e .frame)) (r .0) in (k .2, k .3)
 frame-ranged (e ∷ es) (suc place) r h = frame-ranged es place (r .1) (omega arith)
@@ -240,14 +256,16 @@ length-tail q c size n =
     let b : length (big 4 n) ≡ 4 = length-big 4 n in
     simp length-append (omega arith)
 
-put-stored : (d : List ℕ) (used : ℕ) (es : List RecordEntry) (e : RecordEntry) (size n : ℕ) → used ≡ length (entriesBytes es) + 4 → take (used - 4) d ≡ entriesBytes es
+put-stored : (d : List ℕ) (used : ℕ) (es : List RecordEntry) (e : RecordEntry) (size n : ℕ) → used ≡ length (entriesBytes es) + 4
+    → take (used - 4) d ≡ entriesBytes es
     → n ≡ length es → size ≡ length (e .frame) → used + length (e .frame) + 4 ≤ length d
     → put (put d (used - 4) (e .frame)) (used - 4 + length (e .frame)) (tailOf (e .request) (e .count) size (n + 1))
     ≡ recordBytes (es ++ (e ∷ [])) ++ drop (used + length (e .frame) + 4) d
 unfolding put
 put-stored d used es e size n u t q z h =
     let x : List ℕ = e .frame ++ tailOf (e .request) (e .count) size (n + 1) in
-    let l : length x ≡ length (e .frame) + 8 = length-append (e .frame) (tailOf (e .request) (e .count) size (n + 1)) ∙ ap (λ (k : ℕ). length (e .frame) + k) (length-tail (e .request) (e .count) size (n + 1)) in
+    let l : length x ≡ length (e .frame) + 8 = length-append (e .frame) (tailOf (e .request) (e .count) size (n + 1))
+        ∙ ap (λ (k : ℕ). length (e .frame) + k) (length-tail (e .request) (e .count) size (n + 1)) in
     let g : used - 4 + length x ≡ used + length (e .frame) + 4 = omega arith in
     put-put d (used - 4) (e .frame) (tailOf (e .request) (e .count) size (n + 1)) (omega arith)
     ∙ sym (append-assoc (take (used - 4) d) x (drop (used - 4 + length x) d))
@@ -289,33 +307,40 @@ module _ (d : List ℕ) (used : ℕ) (e : RecordEntry) (size : ℕ) where
 
   -- of a whole record in the used bytes
   pub whole-used : used ≤ length d → Bytes d → (n : ℕ) (v : Located) → walkOf (readRecord (take used d)) 0 ≡ walked.Whole n v
-      → (es : List RecordEntry) × (readRecord (take used d) ≡ some es) × (n ≡ length es) × (used ≡ length (entriesBytes es) + 4) × (take (used - 4) d ≡ entriesBytes es)
+      → (es : List RecordEntry) × (readRecord (take used d) ≡ some es) × (n ≡ length es) × (used ≡ length (entriesBytes es) + 4)
+          × (take (used - 4) d ≡ entriesBytes es)
   whole-used h b n v w = go (readRecord (take used d)) refl w
     where
-      sizes : (es : List RecordEntry) → take used d ≡ entriesBytes es ++ big 4 (length es) → (used ≡ length (entriesBytes es) + 4) × (take (used - 4) d ≡ entriesBytes es)
+      sizes : (es : List RecordEntry) → take used d ≡ entriesBytes es ++ big 4 (length es)
+          → (used ≡ length (entriesBytes es) + 4) × (take (used - 4) d ≡ entriesBytes es)
       sizes es r =
           let l : used ≡ length (entriesBytes es) + 4 =
-          sym (length-take-le used d h) ∙ ap length r ∙ length-append (entriesBytes es) (big 4 (length es)) ∙ ap (λ (k : ℕ). length (entriesBytes es) + k) (length-big 4 (length es)) in
+          sym (length-take-le used d h) ∙ ap length r ∙ length-append (entriesBytes es) (big 4 (length es))
+              ∙ ap (λ (k : ℕ). length (entriesBytes es) + k) (length-big 4 (length es)) in
           let t : take (used - 4) (take used d) ≡ take (used - 4) d = take-take (used - 4) used d (omega arith) in
           (l, sym t ∙ ap (take (used - 4)) r ∙ take-at (entriesBytes es) (big 4 (length es)) (used - 4) (omega arith))
 
       go : (o : Option (List RecordEntry)) → readRecord (take used d) ≡ o → walkOf o 0 ≡ walked.Whole n v
-          → (es : List RecordEntry) × (readRecord (take used d) ≡ some es) × (n ≡ length es) × (used ≡ length (entriesBytes es) + 4) × (take (used - 4) d ≡ entriesBytes es)
+          → (es : List RecordEntry) × (readRecord (take used d) ≡ some es) × (n ≡ length es) × (used ≡ length (entriesBytes es) + 4)
+              × (take (used - 4) d ≡ entriesBytes es)
       go none q r = let z : _≡_ {A = ℕ} 0 1 = cc in absurd (omega arith)
       go (some es) q r =
           let f = sizes es (record-bytes (take used d) es (is-read (take used d) es (bytes-take d used b) q)) in
           (es, q, cc, f .0, f .1)
 
-  pub add-none : mayAdd d used e size ≡ true → walkOf (readRecord (take used d)) 0 ≡ walked.Broken → (refused 7 ≡ addAnswer d used e size) × (d ≡ addBuffer d used e size)
+  pub add-none : mayAdd d used e size ≡ true → walkOf (readRecord (take used d)) 0 ≡ walked.Broken
+      → (refused 7 ≡ addAnswer d used e size) × (d ≡ addBuffer d used e size)
   unfolding addAnswer addBuffer
   add-none m w = go (readRecord (take used d)) refl w
     where
       go : (o : Option (List RecordEntry)) → readRecord (take used d) ≡ o → walkOf o 0 ≡ walked.Broken
-          → (refused 7 ≡ cond (mayAdd d used e size) (addOf (readRecord (take used d)) d used e) (refused 1)) × (d ≡ cond (mayAdd d used e size) (storedOf (readRecord (take used d)) d used e) d)
+          → (refused 7 ≡ cond (mayAdd d used e size) (addOf (readRecord (take used d)) d used e) (refused 1))
+              × (d ≡ cond (mayAdd d used e size) (storedOf (readRecord (take used d)) d used e) d)
       go none q r = (simp (m, q), simp (m, q))
       go (some es) q r = let z : _≡_ {A = ℕ} 0 1 = cc in absurd (omega arith)
 
-  pub add-full : mayAdd d used e size ≡ true → Bytes d → (n : ℕ) (v : Located) → walkOf (readRecord (take used d)) 0 ≡ walked.Whole n v → hasRoom d used e ≡ false
+  pub add-full : mayAdd d used e size ≡ true → Bytes d → (n : ℕ) (v : Located) → walkOf (readRecord (take used d)) 0 ≡ walked.Whole n v
+      → hasRoom d used e ≡ false
       → (refused 6 ≡ addAnswer d used e size) × (d ≡ addBuffer d used e size)
   unfolding addAnswer addBuffer
   add-full m b n v w r =
@@ -325,7 +350,8 @@ module _ (d : List ℕ) (used : ℕ) (e : RecordEntry) (size : ℕ) where
   pub add-stored : mayAdd d used e size ≡ true → Bytes d → (n : ℕ) (v : Located) → walkOf (readRecord (take used d)) 0 ≡ walked.Whole n v
       → used + length (e .frame) + 4 ≤ length d → used + length (e .frame) + 4 ≤ 65536
       → (accepted (used + length (e .frame) + 4) ≡ addAnswer d used e size)
-      × (put (put d (used - 4) (e .frame)) (used - 4 + length (e .frame)) (tailOf (e .request) (e .count) size (n + 1)) ≡ addBuffer d used e size)
+      × (put (put d (used - 4) (e .frame)) (used - 4 + length (e .frame)) (tailOf (e .request) (e .count) size (n + 1)) ≡ addBuffer d used e
+          size)
   unfolding addAnswer addBuffer
   add-stored m b n v w h k =
       let a = allowed m in
@@ -333,7 +359,8 @@ module _ (d : List ℕ) (used : ℕ) (e : RecordEntry) (size : ℕ) where
       let r : hasRoom d used e ≡ true = room-yes h k in
       (simp (m, f .1, r), simp (m, f .1, r) (put-stored d used (f .0) e size n (f .3) (f .4) (f .2) (a .sized) h))
 
-  pub used-known : used ≤ length d → Bytes d → (n : ℕ) (v : Located) → walkOf (readRecord (take used d)) 0 ≡ walked.Whole n v → (4 ≤ used) × (n ≤ used)
+  pub used-known : used ≤ length d → Bytes d → (n : ℕ) (v : Located) → walkOf (readRecord (take used d)) 0 ≡ walked.Whole n v
+      → (4 ≤ used) × (n ≤ used)
   used-known h b n v w =
       let f = whole-used h b n v w in
       let k : length (f .0) ≤ length (entriesBytes (f .0)) = count-most (f .0) in

@@ -12,10 +12,12 @@ use lib.ListN.{length, take, drop, replicate, length-append}
 use lib.Seq.{take-at, drop-at}
 use borrow.Author.Tests.{lt-ltb, leb-true, le-leb}
 use Rattle.record_bytes.specs.declared.Walked.the-variants as walked
-use Rattle.record_bytes.specs.Layout.{RecordEntry, big, trailer, entryBytes, entriesBytes, recordBytes, inRange, EntryInRange, IsRecord, most}
+use Rattle.record_bytes.specs.Layout.{RecordEntry, big, trailer, entryBytes, entriesBytes, recordBytes, inRange, EntryInRange, IsRecord,
+    most}
 use Rattle.record_bytes.specs.Reading.{number, readRecord}
 use Rattle.record_bytes.specs.Located.{located, locate}
-use Rattle.record.specs.Answers.{Answer, accepted, refused, entriesOf, entriesAnswer, entryAnswer, frameAt, framePart, mayAddTo, mayAdd, hasRoom, addAnswer, addBuffer}
+use Rattle.record.specs.Answers.{Answer, accepted, refused, entriesOf, entriesAnswer, entryAnswer, frameAt, framePart, mayAddTo,
+    mayAdd, hasRoom, addAnswer, addBuffer}
 use Rattle.record_bytes.specs.Steps.{walkOf}
 use Rattle.record.specs.Meaning.{CountMeans, entryFrom, Stored}
 use Rattle.record_bytes.specs.declared.Located.{Located}
@@ -32,7 +34,8 @@ read-record s es r = ap readRecord (r .bytes) ∙ read-bytes es (r .ranges) (sub
 pub record-exactly : (s : List ℕ) (es : List RecordEntry) → Bytes s → (readRecord s ≡ some es) ↔ IsRecord s es
 record-exactly s es b = (is-read s es b, read-record s es)
 
-means-of : (s : List ℕ) (n : ℕ) (v : Located) → Bytes s → (o : Option (List RecordEntry)) → readRecord s ≡ o → walkOf o 0 ≡ walked.Whole n v → CountMeans 0 n s
+means-of : (s : List ℕ) (n : ℕ) (v : Located) → Bytes s → (o : Option (List RecordEntry)) → readRecord s ≡ o → walkOf o 0 ≡ walked.Whole n v
+    → CountMeans 0 n s
 means-of s n v b none q w = let z : _≡_ {A = ℕ} 0 1 = cc in absurd (omega arith)
 means-of s n v b (some es) q w = (es, is-read s es b q, cc)
 
@@ -55,10 +58,12 @@ locate-last [] e start =
     ap (located e) z
 locate-last (x ∷ es) e start =
     let l : length (entryBytes x) ≡ length (x .frame) + 4 = length-entry x in
-    let z : start + (length (x .frame) + 4) + length (entriesBytes es) ≡ start + length (entryBytes x ++ entriesBytes es) = rw (length-append, l) (add-assoc start (length (x .frame) + 4) (length (entriesBytes es))) in
+    let z : start + (length (x .frame) + 4) + length (entriesBytes es) ≡ start + length (entryBytes x ++ entriesBytes es) =
+        rw (length-append, l) (add-assoc start (length (x .frame) + 4) (length (entriesBytes es))) in
     locate-last es e (start + (length (x .frame) + 4)) ∙ ap (located e) z
 
-locate-older : (es : List RecordEntry) (e : RecordEntry) (place start : ℕ) → place < length es → locate (es ++ (e ∷ [])) place start ≡ locate es place start
+locate-older : (es : List RecordEntry) (e : RecordEntry) (place start : ℕ) → place < length es
+    → locate (es ++ (e ∷ [])) place start ≡ locate es place start
 locate-older [] e place start h = absurd (omega arith)
 locate-older (x ∷ es) e zero start h = refl
 locate-older (x ∷ es) e (suc place) start h = locate-older es e place (start + (length (x .frame) + 4)) (omega arith)
@@ -72,7 +77,8 @@ frame-older [] e place h = absurd (omega arith)
 frame-older (x ∷ es) e zero h = refl
 frame-older (x ∷ es) e (suc place) h = frame-older es e place (omega arith)
 
-module _ (s t : List ℕ) (es : List RecordEntry) (e : RecordEntry) (was : readRecord s ≡ some es) (now : readRecord t ≡ some (es ++ (e ∷ []))) where
+module _ (s t : List ℕ) (es : List RecordEntry) (e : RecordEntry) (was : readRecord s ≡ some es)
+    (now : readRecord t ≡ some (es ++ (e ∷ []))) where
   pub one-more : entriesAnswer t ≡ accepted (suc (length es))
   unfolding entriesAnswer
   one-more = ap entriesOf now ∙ ap accepted (length-one es e)
@@ -100,19 +106,23 @@ module _ (s t : List ℕ) (es : List RecordEntry) (e : RecordEntry) (was : readR
 
 -- ---- an addition
 
-record-length : (es : List RecordEntry) (e : RecordEntry) (used : ℕ) → used ≡ length (entriesBytes es) + 4 → length (recordBytes (es ++ (e ∷ []))) ≡ used + length (e .frame) + 4
+record-length : (es : List RecordEntry) (e : RecordEntry) (used : ℕ) → used ≡ length (entriesBytes es) + 4
+    → length (recordBytes (es ++ (e ∷ []))) ≡ used + length (e .frame) + 4
 unfolding recordBytes
 record-length es e used u =
     let l : length (entriesBytes (es ++ (e ∷ []))) ≡ length (entriesBytes es) + (length (e .frame) + 4) =
-    ap length (entries-one es e) ∙ length-append (entriesBytes es) (entryBytes e) ∙ ap (λ (k : ℕ). length (entriesBytes es) + k) (length-entry e) in
+    ap length (entries-one es e) ∙ length-append (entriesBytes es) (entryBytes e)
+        ∙ ap (λ (k : ℕ). length (entriesBytes es) + k) (length-entry e) in
     let b : length (big 4 (length (es ++ (e ∷ [])))) ≡ 4 = length-big 4 (length (es ++ (e ∷ []))) in
     length-append (entriesBytes (es ++ (e ∷ []))) (big 4 (length (es ++ (e ∷ [])))) ∙ (omega arith)
 
-record-entry : (es : List RecordEntry) (e : RecordEntry) (q : List ℕ) → (rest : List ℕ) × (recordBytes (es ++ (e ∷ [])) ++ q ≡ entriesBytes es ++ (entryBytes e ++ rest))
+record-entry : (es : List RecordEntry) (e : RecordEntry) (q : List ℕ)
+    → (rest : List ℕ) × (recordBytes (es ++ (e ∷ [])) ++ q ≡ entriesBytes es ++ (entryBytes e ++ rest))
 unfolding recordBytes
 record-entry es e q = (big 4 (length (es ++ (e ∷ []))) ++ q, rw (entries-one es e) (simp append-assoc))
 
-pub stored : (d : List ℕ) (used : ℕ) (es : List RecordEntry) (e : RecordEntry) → Bytes (take used d) → readRecord (take used d) ≡ some es → EntryInRange e
+pub stored : (d : List ℕ) (used : ℕ) (es : List RecordEntry) (e : RecordEntry) → Bytes (take used d) → readRecord (take used d) ≡ some es
+    → EntryInRange e
     → used ≡ length (entriesBytes es) + 4 → take (used - 4) d ≡ entriesBytes es → used + length (e .frame) + 4 ≤ most
     → Stored d (recordBytes (es ++ (e ∷ [])) ++ drop (used + length (e .frame) + 4) d) used (used + length (e .frame) + 4) e
 unfolding entriesAnswer
@@ -123,7 +133,8 @@ stored d used es e b was r u t h =
     let l : length new ≡ next = record-length es e used u in
     let part : take next after ≡ new = take-at new (drop next d) next l in
     let i = is-read (take used d) es b was in
-    let now : readRecord (take next after) ≡ some (es ++ (e ∷ [])) = ap readRecord part ∙ read-bytes (es ++ (e ∷ [])) (ranges-one es e (i .ranges) r) (omega arith) in
+    let now : readRecord (take next after) ≡ some (es ++ (e ∷ [])) =
+        ap readRecord part ∙ read-bytes (es ++ (e ∷ [])) (ranges-one es e (i .ranges) r) (omega arith) in
     let w = record-entry es e (drop next d) in
     let st : length (entriesBytes es) ≡ used - 4 = omega arith in
     record {
@@ -135,7 +146,8 @@ stored d used es e b was r u t h =
       same = older-same (take used d) (take next after) es e was now;
       same-frame = older-frame (take used d) (take next after) es e was now;
       bytes = ap (λ (x : List ℕ). take (length (entryBytes e)) (drop (used - 4) x)) (w .1)
-          ∙ ap (take (length (entryBytes e))) (drop-at (entriesBytes es) (entryBytes e ++ w .0) (used - 4) st) ∙ take-at (entryBytes e) (w .0) (length (entryBytes e)) refl;
+          ∙ ap (take (length (entryBytes e))) (drop-at (entriesBytes es) (entryBytes e ++ w .0) (used - 4) st)
+              ∙ take-at (entryBytes e) (w .0) (length (entryBytes e)) refl;
       front = ap (take (used - 4)) (w .1) ∙ take-at (entriesBytes es) (entryBytes e ++ w .0) (used - 4) st ∙ sym t;
       past = drop-at new (drop next d) next l;
     }
@@ -155,10 +167,12 @@ module _ (d : List ℕ) (used : ℕ) (e : RecordEntry) (size : ℕ) (m : mayAdd 
   unfolding mayAdd mayAddTo
   entry-ranges =
       let f = and-right (leb used (length d) && leb used most) (inRange (e .request) (e .count) size && eqb size (length (e .frame))) m in
-      ap (inRange (e .request) (e .count)) (sym (allowed d used e size m .sized)) ∙ and-left (inRange (e .request) (e .count) size) (eqb size (length (e .frame))) f
+      ap (inRange (e .request) (e .count)) (sym (allowed d used e size m .sized))
+          ∙ and-left (inRange (e .request) (e .count) size) (eqb size (length (e .frame))) f
 
   -- an entry called stored is stored
-  pub add-stores : Bytes d → (n : ℕ) (v : Located) → walkOf (readRecord (take used d)) 0 ≡ walked.Whole n v → hasRoom d used e ≡ true → used + length (e .frame) + 4 ≤ most
+  pub add-stores : Bytes d → (n : ℕ) (v : Located) → walkOf (readRecord (take used d)) 0 ≡ walked.Whole n v → hasRoom d used e ≡ true
+      → used + length (e .frame) + 4 ≤ most
       → Stored d (addBuffer d used e size) used (used + length (e .frame) + 4) e
   unfolding addBuffer
   add-stores b n v w r k =
@@ -172,7 +186,8 @@ module _ (d : List ℕ) (used : ℕ) (e : RecordEntry) (size : ℕ) (m : mayAdd 
   full-exactly es was =
       let next : ℕ = used + length (e .frame) + 4 in (
         λ a. no-room next (length d) most (full (hasRoom d used e) (sym (simp (m, was)) ∙ a)),
-        λ f. let r : hasRoom d used e ≡ false = room-none next (length d) most (leb next (length d)) (leb next most) refl refl f in simp (m, was, r),
+        λ f. let r : hasRoom d used e ≡ false = room-none next (length d) most (leb next (length d)) (leb next most) refl refl f in
+            simp (m, was, r),
       )
     where
       full : (b : Bool) → cond b (accepted (used + length (e .frame) + 4)) (refused 6) ≡ refused 6 → b ≡ false

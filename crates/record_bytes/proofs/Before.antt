@@ -50,26 +50,30 @@ ending-ranges : (s : List ℕ) (end size : ℕ) → inRange (getD s (end - 4) 0)
 unfolding entryEnding
 ending-ranges s end size r l = ap (inRange (getD s (end - 4) 0) (getD s (end - 3) 0)) l ∙ r
 
-ending-before : (s : List ℕ) (end size : ℕ) → end ≤ length s → size ≡ number s (end - 2) 2 → mayEnd s end size ≡ true → Before s end (entryEnding s end size)
+ending-before : (s : List ℕ) (end size : ℕ) → end ≤ length s → size ≡ number s (end - 2) 2 → mayEnd s end size ≡ true
+    → Before s end (entryEnding s end size)
 unfolding mayEnd
 ending-before s end size h q m =
     let i : Bool = inRange (getD s (end - 4) 0) (getD s (end - 3) 0) size in
     let k : size + 4 ≤ end = leb-true (size + 4) end (and-left (leb (size + 4) end) i m) in
     let l : length (entryEnding s end size .frame) ≡ size = ending-length s end size h k in
-    record { size = l ∙ q; fits = omega arith; ranges = ending-ranges s end size (and-right (leb (size + 4) end) i m) l; found = ap (entryEnding s end) (sym l) }
+    record { size = l ∙ q; fits = omega arith; ranges = ending-ranges s end size (and-right (leb (size + 4) end) i m) l; found = ap
+        (entryEnding s end) (sym l) }
 
 pub before-of : (s : List ℕ) (end : ℕ) (e : RecordEntry) → end ≤ length s → entryBefore s end ≡ some e → Before s end e
 unfolding entryBefore
 before-of s end e h f = go (mayEnd s end (number s (end - 2) 2)) refl f
   where
-    go : (b : Bool) → mayEnd s end (number s (end - 2) 2) ≡ b → cond b (some (entryEnding s end (number s (end - 2) 2))) none ≡ some e → Before s end e
+    go : (b : Bool) → mayEnd s end (number s (end - 2) 2) ≡ b → cond b (some (entryEnding s end (number s (end - 2) 2))) none ≡ some e
+        → Before s end e
     go true m g =
         let q : entryEnding s end (number s (end - 2) 2) ≡ e = cc in
         subst (Before s end) q (ending-before s end (number s (end - 2) 2) h refl m)
     go false m g = let z : _≡_ {A = ℕ} 0 1 = cc in absurd (omega arith)
 
 -- the four bytes of a trailer
-four-from : (s : List ℕ) (a : ℕ) → Bytes s → a + 4 ≤ length s → take 4 (drop a s) ≡ getD s a 0 ∷ getD s (suc a) 0 ∷ big 2 (number s (suc (suc a)) 2)
+four-from : (s : List ℕ) (a : ℕ) → Bytes s → a + 4 ≤ length s
+    → take 4 (drop a s) ≡ getD s a 0 ∷ getD s (suc a) 0 ∷ big 2 (number s (suc (suc a)) 2)
 four-from s a b h =
     let x : drop a s ≡ getD s a 0 ∷ drop (suc a) s = drop-cons s a 0 (omega arith) in
     let y : drop (suc a) s ≡ getD s (suc a) 0 ∷ drop (suc (suc a)) s = drop-cons s (suc a) 0 (omega arith) in
@@ -113,19 +117,29 @@ before-entry p e q r =
     let s : List ℕ = p ++ ((f ++ (e .request ∷ e .count ∷ big 2 n)) ++ q) in
     let end : ℕ = length p + (n + 4) in
     let lr = in-range-of (e .request) (e .count) n r in
-    let z1 : s ≡ p ++ (f ++ (e .request ∷ e .count ∷ (big 2 n ++ q))) = ap (λ (l : List ℕ). p ++ l) (append-assoc f (e .request ∷ e .count ∷ big 2 n) q) in
-    let z2 : s ≡ (p ++ f) ++ (e .request ∷ e .count ∷ (big 2 n ++ q)) = z1 ∙ sym (append-assoc p f (e .request ∷ e .count ∷ (big 2 n ++ q))) in
-    let z3 : s ≡ ((p ++ f) ++ (e .request ∷ [])) ++ (e .count ∷ (big 2 n ++ q)) = z2 ∙ sym (append-assoc (p ++ f) (e .request ∷ []) (e .count ∷ (big 2 n ++ q))) in
-    let z4 : s ≡ ((p ++ f) ++ (e .request ∷ e .count ∷ [])) ++ (big 2 n ++ q) = z2 ∙ sym (append-assoc (p ++ f) (e .request ∷ e .count ∷ []) (big 2 n ++ q)) in
+    let z1 : s ≡ p ++ (f ++ (e .request ∷ e .count ∷ (big 2 n ++ q))) =
+        ap (λ (l : List ℕ). p ++ l) (append-assoc f (e .request ∷ e .count ∷ big 2 n) q) in
+    let z2 : s ≡ (p ++ f) ++ (e .request ∷ e .count ∷ (big 2 n ++ q)) =
+        z1 ∙ sym (append-assoc p f (e .request ∷ e .count ∷ (big 2 n ++ q))) in
+    let z3 : s ≡ ((p ++ f) ++ (e .request ∷ [])) ++ (e .count ∷ (big 2 n ++ q)) =
+        z2 ∙ sym (append-assoc (p ++ f) (e .request ∷ []) (e .count ∷ (big 2 n ++ q))) in
+    let z4 : s ≡ ((p ++ f) ++ (e .request ∷ e .count ∷ [])) ++ (big 2 n ++ q) =
+        z2 ∙ sym (append-assoc (p ++ f) (e .request ∷ e .count ∷ []) (big 2 n ++ q)) in
     let l2 : length (p ++ f) ≡ end - 4 = length-append p f ∙ (omega arith) in
     let l3 : length ((p ++ f) ++ (e .request ∷ [])) ≡ end - 3 = length-append (p ++ f) (e .request ∷ []) ∙ (omega arith) in
-    let l4 : length ((p ++ f) ++ (e .request ∷ e .count ∷ [])) ≡ end - 2 = length-append (p ++ f) (e .request ∷ e .count ∷ []) ∙ (omega arith) in
-    let size : number s (end - 2) 2 ≡ n = ap (λ (t : List ℕ). number t (end - 2) 2) z4 ∙ ap (λ (i : ℕ). number (((p ++ f) ++ (e .request ∷ e .count ∷ [])) ++ (big 2 n ++ q)) i 2) (sym l4) ∙ number-big 2 n ((p ++ f) ++ (e .request ∷ e .count ∷ [])) q (omega arith) in
-    let rq : getD s (end - 4) 0 ≡ e .request = ap (λ (t : List ℕ). getD t (end - 4) 0) z2 ∙ getD-at (p ++ f) (e .request) (e .count ∷ (big 2 n ++ q)) 0 (end - 4) l2 in
-    let ct : getD s (end - 3) 0 ≡ e .count = ap (λ (t : List ℕ). getD t (end - 3) 0) z3 ∙ getD-at ((p ++ f) ++ (e .request ∷ [])) (e .count) (big 2 n ++ q) 0 (end - 3) l3 in
+    let l4 : length ((p ++ f) ++ (e .request ∷ e .count ∷ [])) ≡ end - 2 =
+        length-append (p ++ f) (e .request ∷ e .count ∷ []) ∙ (omega arith) in
+    let size : number s (end - 2) 2 ≡ n = ap (λ (t : List ℕ). number t (end - 2) 2) z4
+        ∙ ap (λ (i : ℕ). number (((p ++ f) ++ (e .request ∷ e .count ∷ [])) ++ (big 2 n ++ q)) i 2) (sym l4)
+        ∙ number-big 2 n ((p ++ f) ++ (e .request ∷ e .count ∷ [])) q (omega arith) in
+    let rq : getD s (end - 4) 0 ≡ e .request = ap (λ (t : List ℕ). getD t (end - 4) 0) z2
+        ∙ getD-at (p ++ f) (e .request) (e .count ∷ (big 2 n ++ q)) 0 (end - 4) l2 in
+    let ct : getD s (end - 3) 0 ≡ e .count = ap (λ (t : List ℕ). getD t (end - 3) 0) z3
+        ∙ getD-at ((p ++ f) ++ (e .request ∷ [])) (e .count) (big 2 n ++ q) 0 (end - 3) l3 in
     let st : length p ≡ end - (n + 4) = omega arith in
     let fr : take n (drop (end - (n + 4)) s) ≡ f =
-    ap (λ (t : List ℕ). take n (drop (end - (n + 4)) t)) z1 ∙ ap (take n) (drop-at p (f ++ (e .request ∷ e .count ∷ (big 2 n ++ q))) (end - (n + 4)) st)
+    ap (λ (t : List ℕ). take n (drop (end - (n + 4)) t)) z1
+        ∙ ap (take n) (drop-at p (f ++ (e .request ∷ e .count ∷ (big 2 n ++ q))) (end - (n + 4)) st)
     ∙ take-at f (e .request ∷ e .count ∷ (big 2 n ++ q)) n refl in
     let k : leb (n + 4) end ≡ true = le-leb (n + 4) end (omega arith) in
     simp (size, rq, ct, fr, k, r)

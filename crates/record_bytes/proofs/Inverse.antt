@@ -11,7 +11,8 @@ use lib.Dec.{leb, eqb}
 use lib.ListN.{length, take, drop, length-append, length-drop, take-append-drop}
 use lib.Seq.{take-all}
 use borrow.Author.Tests.{leb-true, le-leb, eqb-true}
-use Rattle.record_bytes.specs.Layout.{RecordEntry, big, trailer, entryBytes, entriesBytes, recordBytes, EntryInRange, AllInRange, IsRecord, most}
+use Rattle.record_bytes.specs.Layout.{RecordEntry, big, trailer, entryBytes, entriesBytes, recordBytes, EntryInRange, AllInRange,
+    IsRecord, most}
 use Rattle.record_bytes.specs.Reading.{number, entryBefore, thenRead, readBack, readRecord}
 use Rattle.record_bytes.proofs.Numbers.{Bytes, number-big, big-number, length-big}
 use Rattle.record_bytes.proofs.Before.{Before, before-of, before-bytes, before-entry}
@@ -20,12 +21,14 @@ use Rattle.record_bytes.proofs.Before.{Before, before-of, before-bytes,
 
 pub length-entry : (e : RecordEntry) → length (entryBytes e) ≡ length (e .frame) + 4
 unfolding entryBytes trailer
-length-entry e = length-append (e .frame) (e .request ∷ e .count ∷ big 2 (length (e .frame))) ∙ ap (λ (n : ℕ). length (e .frame) + suc (suc n)) (length-big 2 (length (e .frame)))
+length-entry e = length-append (e .frame) (e .request ∷ e .count ∷ big 2 (length (e .frame)))
+    ∙ ap (λ (n : ℕ). length (e .frame) + suc (suc n)) (length-big 2 (length (e .frame)))
 
 pub entries-append : (a b : List RecordEntry) → entriesBytes (a ++ b) ≡ entriesBytes a ++ entriesBytes b
 unfolding entriesBytes
 entries-append [] b = refl
-entries-append (e ∷ a) b = ap (λ (l : List ℕ). entryBytes e ++ l) (entries-append a b) ∙ sym (append-assoc (entryBytes e) (entriesBytes a) (entriesBytes b))
+entries-append (e ∷ a) b = ap (λ (l : List ℕ). entryBytes e ++ l) (entries-append a b)
+    ∙ sym (append-assoc (entryBytes e) (entriesBytes a) (entriesBytes b))
 
 pub entries-one : (es : List RecordEntry) (e : RecordEntry) → entriesBytes (es ++ (e ∷ [])) ≡ entriesBytes es ++ entryBytes e
 unfolding entriesBytes
@@ -49,26 +52,33 @@ count-most (e ∷ es) =
 
 -- ---- what was written is read
 
-step-back : (s q : List ℕ) (es : List RecordEntry) (e : RecordEntry) (later : List RecordEntry) → s ≡ entriesBytes es ++ (entryBytes e ++ q) → EntryInRange e
-    → readBack s (length (entriesBytes (es ++ (e ∷ [])))) (length (es ++ (e ∷ []))) later ≡ readBack s (length (entriesBytes es)) (length es) (e ∷ later)
+step-back : (s q : List ℕ) (es : List RecordEntry) (e : RecordEntry) (later : List RecordEntry) → s ≡ entriesBytes es ++ (entryBytes e ++ q)
+    → EntryInRange e
+    → readBack s (length (entriesBytes (es ++ (e ∷ [])))) (length (es ++ (e ∷ []))) later ≡ readBack s (length (entriesBytes es))
+    (length es) (e ∷ later)
 unfolding readBack
 step-back s q es e later z r =
     let p : List ℕ = entriesBytes es in
     let m : ℕ = length (e .frame) + 4 in
-    let l : length (entriesBytes (es ++ (e ∷ []))) ≡ length p + m = ap length (entries-one es e) ∙ length-append p (entryBytes e) ∙ ap (λ (n : ℕ). length p + n) (length-entry e) in
+    let l : length (entriesBytes (es ++ (e ∷ []))) ≡ length p + m = ap length (entries-one es e) ∙ length-append p (entryBytes e)
+        ∙ ap (λ (n : ℕ). length p + n) (length-entry e) in
     let f : entryBefore s (length p + m) ≡ some e = ap (λ (t : List ℕ). entryBefore t (length p + m)) z ∙ before-entry p e q r in
     let d : length p + m - m ≡ length p = add-sub-cancel (length p) m in
     rw (l, length-one es e) (rw f (ap (λ (n : ℕ). readBack s n (length es) (e ∷ later)) d))
 
-back-of : (s q : List ℕ) (newer older : List RecordEntry) (later : List RecordEntry) → s ≡ entriesBytes (older ++ newer) ++ q → AllInRange newer
-    → readBack s (length (entriesBytes (older ++ newer))) (length (older ++ newer)) later ≡ readBack s (length (entriesBytes older)) (length older) (newer ++ later)
+back-of : (s q : List ℕ) (newer older : List RecordEntry) (later : List RecordEntry) → s ≡ entriesBytes (older ++ newer) ++ q
+    → AllInRange newer
+    → readBack s (length (entriesBytes (older ++ newer))) (length (older ++ newer)) later ≡ readBack s (length (entriesBytes older))
+    (length older) (newer ++ later)
 back-of s q [] older later z a = ap (λ (l : List RecordEntry). readBack s (length (entriesBytes l)) (length l) later) (append-nil older)
 back-of s q (e ∷ newer) older later z a =
     let j : older ++ (e ∷ newer) ≡ (older ++ (e ∷ [])) ++ newer = sym (append-assoc older (e ∷ []) newer) in
     let y : s ≡ entriesBytes ((older ++ (e ∷ [])) ++ newer) ++ q = z ∙ ap (λ (l : List RecordEntry). entriesBytes l ++ q) j in
     let x : s ≡ entriesBytes older ++ (entryBytes e ++ (entriesBytes newer ++ q)) =
-    y ∙ ap (λ (l : List ℕ). l ++ q) (entries-append (older ++ (e ∷ [])) newer ∙ ap (λ (l : List ℕ). l ++ entriesBytes newer) (entries-one older e))
-    ∙ append-assoc (entriesBytes older ++ entryBytes e) (entriesBytes newer) q ∙ append-assoc (entriesBytes older) (entryBytes e) (entriesBytes newer ++ q) in
+    y ∙ ap (λ (l : List ℕ). l ++ q) (entries-append (older ++ (e ∷ [])) newer
+        ∙ ap (λ (l : List ℕ). l ++ entriesBytes newer) (entries-one older e))
+    ∙ append-assoc (entriesBytes older ++ entryBytes e) (entriesBytes newer) q
+        ∙ append-assoc (entriesBytes older) (entryBytes e) (entriesBytes newer ++ q) in
     ap (λ (l : List RecordEntry). readBack s (length (entriesBytes l)) (length l) later) j
     ∙ back-of s q newer (older ++ (e ∷ [])) later y (a .1)
     ∙ step-back s (entriesBytes newer ++ q) older e (newer ++ later) x (a .0)
@@ -101,7 +111,8 @@ record Earlier (s : List ℕ) (end n : ℕ) (later es : List RecordEntry) : Type
   counted : length earlier ≡ n
   ranges : AllInRange earlier
 
-earlier-none : (s : List ℕ) (end : ℕ) (later es : List RecordEntry) (b : Bool) → eqb end 0 ≡ b → cond b (some later) none ≡ some es → Earlier s end 0 later es
+earlier-none : (s : List ℕ) (end : ℕ) (later es : List RecordEntry) (b : Bool) → eqb end 0 ≡ b → cond b (some later) none ≡ some es
+    → Earlier s end 0 later es
 unfolding entriesBytes
 earlier-none s end later es true q r =
     let z : end ≡ 0 = eqb-true end 0 q in
@@ -120,16 +131,20 @@ earlier-one s n end later es e b h w i =
     }
 
 earlier-step : (s : List ℕ) (n end : ℕ) (later es : List RecordEntry) → Bytes s → end ≤ length s
-    → ((e : RecordEntry) → readBack s (end - (length (e .frame) + 4)) n (e ∷ later) ≡ some es → Earlier s (end - (length (e .frame) + 4)) n (e ∷ later) es)
-    → (o : Option RecordEntry) → entryBefore s end ≡ o → thenRead o (λ e. readBack s (end - (length (e .frame) + 4)) n (e ∷ later)) ≡ some es → Earlier s end (suc n) later es
+    → ((e : RecordEntry) → readBack s (end - (length (e .frame) + 4)) n (e ∷ later) ≡ some es
+    → Earlier s (end - (length (e .frame) + 4)) n (e ∷ later) es)
+    → (o : Option RecordEntry) → entryBefore s end ≡ o
+    → thenRead o (λ e. readBack s (end - (length (e .frame) + 4)) n (e ∷ later)) ≡ some es → Earlier s end (suc n) later es
 earlier-step s n end later es b h k none q r = let z : _≡_ {A = ℕ} 0 1 = cc in absurd (omega arith)
 earlier-step s n end later es b h k (some e) q r = earlier-one s n end later es e b h (before-of s end e h q) (k e r)
 
-earlier-of : (s : List ℕ) → Bytes s → (n end : ℕ) (later es : List RecordEntry) → end ≤ length s → readBack s end n later ≡ some es → Earlier s end n later es
+earlier-of : (s : List ℕ) → Bytes s → (n end : ℕ) (later es : List RecordEntry) → end ≤ length s → readBack s end n later ≡ some es
+    → Earlier s end n later es
 unfolding readBack
 earlier-of s b zero end later es h r = earlier-none s end later es (eqb end 0) refl r
 earlier-of s b (suc n) end later es h r =
-    earlier-step s n end later es b h (λ e. earlier-of s b n (end - (length (e .frame) + 4)) (e ∷ later) es (omega arith)) (entryBefore s end) refl r
+    earlier-step s n end later es b h (λ e. earlier-of s b n (end - (length (e .frame) + 4)) (e ∷ later) es (omega arith))
+        (entryBefore s end) refl r
 
 is-read-sized : (s : List ℕ) (es : List RecordEntry) → Bytes s → 4 ≤ length s → length s ≤ most
     → Earlier s (length s - 4) (number s (length s - 4) 4) [] es → IsRecord s es
@@ -138,9 +153,11 @@ is-read-sized s es b h k i =
     let at : ℕ = length s - 4 in
     let j : es ≡ i .earlier = i .joined ∙ append-nil (i .earlier) in
     let d : drop at s ≡ big 4 (length es) =
-    sym (take-all 4 (drop at s) (simp length-drop (omega arith))) ∙ big-number 4 s at b (omega arith) ∙ ap (big 4) (sym (ap length j ∙ i .counted)) in
+    sym (take-all 4 (drop at s) (simp length-drop (omega arith))) ∙ big-number 4 s at b (omega arith)
+        ∙ ap (big 4) (sym (ap length j ∙ i .counted)) in
     record {
-      bytes = sym (take-append-drop at s) ∙ ap (λ (l : List ℕ). l ++ drop at s) (i .bytes ∙ ap entriesBytes (sym j)) ∙ ap (λ (l : List ℕ). entriesBytes es ++ l) d;
+      bytes = sym (take-append-drop at s) ∙ ap (λ (l : List ℕ). l ++ drop at s) (i .bytes ∙ ap entriesBytes (sym j))
+          ∙ ap (λ (l : List ℕ). entriesBytes es ++ l) d;
       ranges = subst AllInRange (sym j) (i .ranges);
       size = k;
     }

@@ -35,16 +35,19 @@ module _ (s : List ℕ) (end size : ℕ) (z : size ≡ number s (end - 2) 2) whe
   step-out r = rw (← z) (simp (r, and-false))
 
   pub step-entry : end ≤ length s → size + 4 ≤ end → inRange (getD s (end - 4) 0) (getD s (end - 3) 0) size ≡ true
-      → stepOf (entryBefore s end) end ≡ step.Entry (record { start = end - (size + 4); length = size; request = getD s (end - 4) 0; count = getD s (end - 3) 0 })
+      → stepOf (entryBefore s end) end ≡ step.Entry
+          (record { start = end - (size + 4); length = size; request = getD s (end - 4) 0; count = getD s (end - 3) 0 })
   unfolding entryBefore mayEnd entryEnding
   step-entry h k r =
-      let l : length (take size (drop (end - (size + 4)) s)) ≡ size = length-take-le size (drop (end - (size + 4)) s) (simp length-drop (omega arith)) in
+      let l : length (take size (drop (end - (size + 4)) s)) ≡ size =
+          length-take-le size (drop (end - (size + 4)) s) (simp length-drop (omega arith)) in
       rw (← z) (simp (le-leb (size + 4) end k, r, l))
 
 -- ---- reading on from a step
 
 module _ (s : List ℕ) (end left : ℕ) (later : List RecordEntry) where
-  pub read-on : (e : RecordEntry) → entryBefore s end ≡ some e → readBack s end (suc left) later ≡ readBack s (end - (length (e .frame) + 4)) left (e ∷ later)
+  pub read-on : (e : RecordEntry) → entryBefore s end ≡ some e
+      → readBack s end (suc left) later ≡ readBack s (end - (length (e .frame) + 4)) left (e ∷ later)
   unfolding readBack
   read-on e q = rw q refl
 
@@ -77,7 +80,8 @@ pub walk-long : (s : List ℕ) (place : ℕ) → most < length s → walkOf (rea
 unfolding readRecord
 walk-long s place h = simp (lt-leb (length s) 65536 h, and-false)
 
-pub walk-start : (s : List ℕ) (end n place : ℕ) → 4 ≤ length s → length s ≤ most → end ≡ length s - 4 → n ≡ number s end 4 → Walking s end n place n nowhere
+pub walk-start : (s : List ℕ) (end n place : ℕ) → 4 ≤ length s → length s ≤ most → end ≡ length s - 4 → n ≡ number s end 4
+    → Walking s end n place n nowhere
 unfolding readRecord
 walk-start s end n place h k e t =
     record {
@@ -87,7 +91,8 @@ walk-start s end n place h k e t =
       seen = same-cond (leb n place) nowhere;
     }
 
-seen-next : (e : RecordEntry) (later : List RecordEntry) (left place start end : ℕ) (found v : Located) (x y : Bool) → eqb left place ≡ x → leb (suc left) place ≡ y
+seen-next : (e : RecordEntry) (later : List RecordEntry) (left place start end : ℕ) (found v : Located) (x y : Bool) → eqb left place ≡ x
+    → leb (suc left) place ≡ y
     → start + (length (e .frame) + 4) ≡ end → found ≡ cond y (locate later (place - suc left) end) nowhere
     → v ≡ located e start
     → cond x v found ≡ noted (e ∷ later) left place start
@@ -123,7 +128,8 @@ turn-some s end left place n found v h w (some e) q r =
         later = e ∷ w .later;
         rest = rw st (sym (read-on s end left (w .later) e q) ∙ w .rest);
         counted = omega (arith, w .counted);
-        seen = seen-next e (w .later) left place (v .start) end found v (eqb left place) (leb (suc left) place) refl refl (omega arith) (w .seen) (is ∙ ap (located e) (sym st));
+        seen = seen-next e (w .later) left place (v .start) end found v (eqb left place) (leb (suc left) place) refl refl (omega arith)
+            (w .seen) (is ∙ ap (located e) (sym st));
       };
     }
 

@@ -32,7 +32,8 @@ pub enum Walked {
 }
 
 pub fn wide(x: u8) -> usize
-    ensures { λ r. ⌜ (r ≡ x) × (r < 256) ⌝ }
+    ensures { λ r. ⌜ r ≡ x ⌝ }
+    ensures { λ r. ⌜ r < 256 ⌝ }
 {
     x as usize
 }
@@ -68,7 +69,8 @@ pub fn in_range(request: usize, count: usize, length: usize) -> bool
 // The two bytes from `at` as a number.
 fn number2(s: &[u8], at: usize) -> usize
     requires { ⌜ at + 2 ≤ length (now s) ⌝ }
-    ensures { λ r. ⌜ (r ≡ number (now (s .entry)) at 2) × (r < 65536) ⌝ }
+    ensures { λ r. ⌜ r ≡ number (now (s .entry)) at 2 ⌝ }
+    ensures { λ r. ⌜ r < 65536 ⌝ }
 {
     wide(s[at]) * 256 + wide(s[at + 1])
 }
@@ -76,14 +78,16 @@ fn number2(s: &[u8], at: usize) -> usize
 // The four bytes from `at` as a number.
 fn number4(s: &[u8], at: usize) -> usize
     requires { ⌜ at + 4 ≤ length (now s) ⌝ }
-    ensures { λ r. ⌜ (r ≡ number (now (s .entry)) at 4) × (r < 4294967296) ⌝ }
+    ensures { λ r. ⌜ r ≡ number (now (s .entry)) at 4 ⌝ }
+    ensures { λ r. ⌜ r < 4294967296 ⌝ }
 {
     number2(s, at) * 65536 + number2(s, at + 2)
 }
 
 // The entry that ends before `end`.
 pub fn entry_before(bytes: &[u8], end: usize) -> Step
-    requires { ⌜ (end ≤ length (now bytes)) × (end ≤ 65536) ⌝ }
+    requires { ⌜ end ≤ length (now bytes) ⌝ }
+    requires { ⌜ end ≤ 65536 ⌝ }
     ensures { λ r. ⌜ r ≡ stepOf (entryBefore (now (bytes .entry)) end) end ⌝ }
 {
     if end < 4 {
@@ -169,7 +173,8 @@ pub fn end_number(n: u32) -> [u8; 4]
 
 // What follows an added frame: request, count and length, then the number of entries.
 pub fn tail(request: u32, count: u32, length: u32, n: u32) -> [u8; 8]
-    requires { ⌜ (request < 256) × (count < 256) ⌝ }
+    requires { ⌜ request < 256 ⌝ }
+    requires { ⌜ count < 256 ⌝ }
     ensures { λ r. ⌜ r ≡ tailOf request count length n ⌝ }
 {
     let e = end_number(n);

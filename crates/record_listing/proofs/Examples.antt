@@ -13,5 +13,6 @@ example = record { frame = replicate 20 0; request = 3; count = 0 }
 -- `records 1` and `0 20 3 0`, each with its newline
 pub example-listing : listing (recordBytes (example ∷ []))
     ≡ 114 ∷ 101 ∷ 99 ∷ 111 ∷ 114 ∷ 100 ∷ 115 ∷ 32 ∷ 49 ∷ 10 ∷ 48 ∷ 32 ∷ 50 ∷ 48 ∷ 32 ∷ 51 ∷ 32 ∷ 48 ∷ 10 ∷ []
-unfolding recordBytes entriesBytes entryBytes trailer big listing readRecord readBack entryBefore entryEnding mayEnd number inRange lines line field decimal leading
+unfolding recordBytes entriesBytes entryBytes trailer big listing readRecord readBack entryBefore entryEnding mayEnd number inRange lines
+    line field decimal leading
 example-listing = refl

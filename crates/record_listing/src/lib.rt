@@ -32,8 +32,11 @@ fn digit(d: usize) -> u8
 
 // Puts the digits of n, none for 0, so that they end before `end`, and answers where they start.
 fn put_digits(out: &mut [u8], end: usize, n: usize) -> usize
-    requires { ⌜ (3 ≤ end) × (end ≤ length (now out)) × (n < 1000) ⌝ }
-    ensures { λ r. ⌜ Placed (now (out .entry)) (now (out .exit)) r end (leading n n) × (end ≤ r + 3) ⌝ }
+    requires { ⌜ 3 ≤ end ⌝ }
+    requires { ⌜ end ≤ length (now out) ⌝ }
+    requires { ⌜ n < 1000 ⌝ }
+    ensures { λ r. ⌜ Placed (now (out .entry)) (now (out .exit)) r end (leading n n) ⌝ }
+    ensures { λ r. ⌜ end ≤ r + 3 ⌝ }
 {
     let mut at = end;
     let mut rest = n;
@@ -47,8 +50,11 @@ fn put_digits(out: &mut [u8], end: usize, n: usize) -> usize
 
 // Puts n in decimal and the byte after it so that they end before `end`, and answers where they start.
 fn put_field(out: &mut [u8], end: usize, n: usize, after: u8) -> usize
-    requires { ⌜ (5 ≤ end) × (end ≤ length (now out)) × (n < 10000) ⌝ }
-    ensures { λ r. ⌜ Placed (now (out .entry)) (now (out .exit)) r end (field n after) × (end ≤ r + 5) ⌝ }
+    requires { ⌜ 5 ≤ end ⌝ }
+    requires { ⌜ end ≤ length (now out) ⌝ }
+    requires { ⌜ n < 10000 ⌝ }
+    ensures { λ r. ⌜ Placed (now (out .entry)) (now (out .exit)) r end (field n after) ⌝ }
+    ensures { λ r. ⌜ end ≤ r + 5 ⌝ }
 {
     out[end - 1] = after;
     out[end - 2] = digit(n % 10);
@@ -57,7 +63,8 @@ fn put_field(out: &mut [u8], end: usize, n: usize, after: u8) -> usize
 
 // Puts a text so that it ends before `end`.
 fn put_text(out: &mut [u8], end: usize, text: &[u8]) -> usize
-    requires { ⌜ (length (now text) ≤ end) × (end ≤ length (now out)) ⌝ }
+    requires { ⌜ length (now text) ≤ end ⌝ }
+    requires { ⌜ end ≤ length (now out) ⌝ }
     ensures { λ r. ⌜ Placed (now (out .entry)) (now (out .exit)) r end (now (text .entry)) ⌝ }
 {
     let at = end - text.len();
@@ -67,8 +74,12 @@ fn put_text(out: &mut [u8], end: usize, text: &[u8]) -> usize
 
 // Puts the line of the entry at a place.
 fn put_line(out: &mut [u8], end: usize, place: usize, e: Located) -> usize
-    requires { ⌜ (20 ≤ end) × (end ≤ length (now out)) × (place < 10000) × (e .length < 10000) ⌝ }
-    ensures { λ r. ⌜ Placed (now (out .entry)) (now (out .exit)) r end (line place (e .length) (e .request) (e .count)) × (end ≤ r + 20) ⌝ }
+    requires { ⌜ 20 ≤ end ⌝ }
+    requires { ⌜ end ≤ length (now out) ⌝ }
+    requires { ⌜ place < 10000 ⌝ }
+    requires { ⌜ e .length < 10000 ⌝ }
+    ensures { λ r. ⌜ Placed (now (out .entry)) (now (out .exit)) r end (line place (e .length) (e .request) (e .count)) ⌝ }
+    ensures { λ r. ⌜ end ≤ r + 20 ⌝ }
 {
     let count = put_field(out, end, wide(e.count), 10);
     let request = put_field(out, count, wide(e.request), 32);
@@ -78,8 +89,11 @@ fn put_line(out: &mut [u8], end: usize, place: usize, e: Located) -> usize
 
 // Puts the lines of a record of n entries at the end of the buffer, the youngest first.
 fn put_lines(bytes: &[u8], n: usize, out: &mut [u8]) -> usize
-    requires { ⌜ (accepted n ≡ entriesAnswer (now bytes)) × (65536 ≤ length (now out)) ⌝ }
-    ensures { λ r. ⌜ Placed (now (out .entry)) (now (out .exit)) r (length (now (out .entry))) (linesOf (readRecord (now (bytes .entry)))) × (13 ≤ r) × (n < 10000) ⌝ }
+    requires { ⌜ accepted n ≡ entriesAnswer (now bytes) ⌝ }
+    requires { ⌜ 65536 ≤ length (now out) ⌝ }
+    ensures { λ r. ⌜ Placed (now (out .entry)) (now (out .exit)) r (length (now (out .entry))) (linesOf (readRecord (now (bytes .entry)))) ⌝ }
+    ensures { λ r. ⌜ 13 ≤ r ⌝ }
+    ensures { λ r. ⌜ n < 10000 ⌝ }
 {
     let mut at = out.len();
     let mut end = bytes.len() - 4;

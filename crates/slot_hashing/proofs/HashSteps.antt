@@ -41,16 +41,19 @@ pushed-as : (p n b r : ℕ) → bitXor (bitXor (2 * r) (b * 2 ^ n)) (bitXor (2 *
 unfolding pushed sum
 pushed-as p n b r = refl
 
-pub push-is : (p n b r v w : ℕ) → Degree p n → n ≤ 22 → b < 2 → r < 2 ^ n → v ≡ bitXor (2 * r) (b * 2 ^ n % 4294967296) → w ≡ bitXor v (v / 2 ^ n * p)
+pub push-is : (p n b r v w : ℕ) → Degree p n → n ≤ 22 → b < 2 → r < 2 ^ n → v ≡ bitXor (2 * r) (b * 2 ^ n % 4294967296)
+    → w ≡ bitXor v (v / 2 ^ n * p)
     → (w ≡ pushed p n b r) × (w < 2 ^ n)
 push-is p n b r v w d h k l e f =
-    let x : w ≡ pushed p n b r = f ∙ ap (λ (y : ℕ). bitXor y (y / 2 ^ n * p)) (e ∙ ap (bitXor (2 * r)) (shifted-bit b n k h)) ∙ pushed-as p n b r in
+    let x : w ≡ pushed p n b r = f ∙ ap (λ (y : ℕ). bitXor y (y / 2 ^ n * p)) (e ∙ ap (bitXor (2 * r)) (shifted-bit b n k h))
+        ∙ pushed-as p n b r in
     let y = pushed-lt p n b r d k l in
     (x, omega arith)
 
 -- ---- the loops over semi-octets
 
-hash-cons : (p n c : ℕ) (s : List ℕ) → hash p n (bitsOf (c ∷ s)) ≡ pushed p n (c % 2) (pushed p n (c / 2 % 2) (pushed p n (c / 4 % 2) (pushed p n (c / 8 % 2) (hash p n (bitsOf s)))))
+hash-cons : (p n c : ℕ) (s : List ℕ) → hash p n (bitsOf (c ∷ s)) ≡ pushed p n (c % 2)
+    (pushed p n (c / 2 % 2) (pushed p n (c / 4 % 2) (pushed p n (c / 8 % 2) (hash p n (bitsOf s)))))
 unfolding hash bitsOf
 hash-cons p n c s = refl
 
@@ -70,7 +73,8 @@ pub hash-next : (p n : ℕ) (s : List ℕ) (i r v : ℕ) → 0 < i → i ≤ len
 hash-next p n s i r v h l e f = f ∙ hash-at p n s (i - 1) i r (omega arith) (omega arith) e
 
 pub hash-next-four : (p n : ℕ) (s : List ℕ) (i r v : ℕ) → 4 ≤ i → i ≤ length s → r ≡ hash p n (bitsOf (drop i s))
-    → v ≡ semiPushed p n (getD s (i - 4) 0) (semiPushed p n (getD s (i - 4 + 1) 0) (semiPushed p n (getD s (i - 4 + 2) 0) (semiPushed p n (getD s (i - 4 + 3) 0) r)))
+    → v ≡ semiPushed p n (getD s (i - 4) 0) (semiPushed p n (getD s (i - 4 + 1) 0)
+    (semiPushed p n (getD s (i - 4 + 2) 0) (semiPushed p n (getD s (i - 4 + 3) 0) r)))
     → v ≡ hash p n (bitsOf (drop (i - 4) s))
 hash-next-four p n s i r v h l e f =
     let j : ℕ = i - 4 in
@@ -90,7 +94,8 @@ hash-rest p n s i v f =
 
 -- 71956 is 4 * 17989: x^2 times `poly14`
 pub first-forty : (size mode q e : ℕ) (a : List ℕ) (r v : ℕ) → size ≡ 40 → e ≡ 2 * frameSize size mode - conceal size mode
-    → r ≡ hash 71956 16 (bitsOf (take e a)) → v ≡ pushed 17989 14 (q % 2) (pushed 17989 14 (q / 2 % 2) (r / 4)) → v ≡ firstHash size mode q a
+    → r ≡ hash 71956 16 (bitsOf (take e a)) → v ≡ pushed 17989 14 (q % 2) (pushed 17989 14 (q / 2 % 2) (r / 4))
+    → v ≡ firstHash size mode q a
 unfolding firstHash partN hash1 hash poly14 powers
 first-forty size mode q e a r v h k g f =
     let y : r / 4 ≡ hash 17989 14 (bitsOf (take e a)) = ap (λ (x : ℕ). x / 4) g ∙ hash-lowered 17989 14 2 (bitsOf (take e a)) in
@@ -99,7 +104,8 @@ first-forty size mode q e a r v h k g f =
     rw (eq-eqb size 40 h) (rw k at w)
 
 pub first-other : (size mode q e : ℕ) (a : List ℕ) (r v : ℕ) → (size ≡ 40 → ⊥) → e ≡ 2 * frameSize size mode - conceal size mode
-    → r ≡ hash 4788009 22 (bitsOf (take e a)) → v ≡ pushed 4788009 22 (q % 2) (pushed 4788009 22 (q / 2 % 2) r) → v ≡ firstHash size mode q a
+    → r ≡ hash 4788009 22 (bitsOf (take e a)) → v ≡ pushed 4788009 22 (q % 2) (pushed 4788009 22 (q / 2 % 2) r)
+    → v ≡ firstHash size mode q a
 unfolding firstHash partN hash1 hash poly22 powers
 first-other size mode q e a r v h k g f =
     let w : v ≡ pushed 4788009 22 (q % 2) (pushed 4788009 22 (q / 2 % 2) (hash 4788009 22 (bitsOf (take e a)))) =

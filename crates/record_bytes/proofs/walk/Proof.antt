@@ -1,4 +1,5 @@
--- `record_bytes::walk` meets its contract. The invariant is `Walking`: what is left to read gives, with the later entries, the whole. Assumes nothing.
+-- `record_bytes::walk` meets its contract. The invariant is `Walking`: what is left to read gives, with the later entries, the whole.
+-- Assumes nothing.
 use mathlib.Core.Path.{sym, _∙_, refl}
 use Prim.Native.Nat.{_≤_}
 use native.Mathlib.Omega.{arith}
@@ -10,7 +11,8 @@ use Rattle.record_bytes.proofs.Walking.{Walking, walk-short, walk-long,
 use Rattle.record_bytes.proofs.walk.Statement.{statement}
 
 abbrev Inv-loop : tie.InvT-loop
-Inv-loop bytes place size end₀ entries left₀ found₀ end left found = (end ≤ length bytes) × (end ≤ 65536) × Walking bytes end left place entries found
+Inv-loop bytes place size end₀ entries left₀ found₀ end left found =
+    (end ≤ length bytes) × (end ≤ 65536) × Walking bytes end left place entries found
 
 abbrev μ-loop : tie.MeasureT-loop
 μ-loop bytes place size end₀ entries left₀ found₀ end left found = left
@@ -28,13 +30,15 @@ returns-2 c =
 loop-holds : tie.Need-loop-holds Inv-loop μ-loop
 loop-holds c =
     let a = c .before .before .before .before .args in
-    (omega arith, omega arith, walk-start (now (a .bytes)) _ (c .number4 .result) (a .place) (omega arith) (omega arith) refl (c .number4 .ensures .0))
+    (omega arith, omega arith, walk-start (now (a .bytes)) _ (c .number4 .result) (a .place) (omega arith) (omega arith) refl
+        (c .number4 .ensures .0))
 
 returns-3 : tie.Need-returns-3 Inv-loop μ-loop
 returns-3 c =
     let a = c .before .before .before .before .before .before .before .before .before .args in
     let l = c .before .before .before .before .loop in
-    sym (walk-stop (now (a .bytes)) (l .end) (l .left) (a .place) (c .before .before .before .before .before .number4 .result) (l .found) (omega arith) (l .inv .2)
+    sym (walk-stop (now (a .bytes)) (l .end) (l .left) (a .place) (c .before .before .before .before .before .number4 .result) (l .found)
+        (omega arith) (l .inv .2)
     (sym (c .before .before .entry-before .ensures) ∙ c .enum-told .given .1))
 
 loop-again : tie.Need-loop-again Inv-loop μ-loop
@@ -42,7 +46,9 @@ loop-again c =
     let a = c .before .before .before .before .before .before .before .before .before .before .before .before .args in
     let l = c .before .before .before .before .before .before .before .loop in
     let v = c .before .before .before .step .given .0 .0 in
-    let t = turn (now (a .bytes)) (l .end) (l .left) (a .place) (c .before .before .before .before .before .before .before .before .number4 .result) (l .found) v (l .inv .0) (omega arith) (l .inv .2)
+    let t = turn (now (a .bytes)) (l .end) (l .left) (a .place)
+        (c .before .before .before .before .before .before .before .before .number4 .result) (l .found) v (l .inv .0) (omega arith)
+        (l .inv .2)
     (sym (c .before .before .before .before .before .entry-before .ensures) ∙ c .before .before .before .step .given .1) in
     let low = t .lower in
     (omega arith, omega arith, rw (c .wide4 .ensures, c .before .kept .ensures) (t .walking))
@@ -51,13 +57,15 @@ returns-4 : tie.Need-returns-4 Inv-loop μ-loop
 returns-4 c =
     let a = c .before .before .before .before .before .before .before .args in
     let l = c .before .before .loop in
-    sym (walk-whole (now (a .bytes)) (l .end) (l .left) (a .place) (c .before .before .before .number4 .result) (l .found) (c .if3 .taken) (omega arith) (l .inv .2))
+    sym (walk-whole (now (a .bytes)) (l .end) (l .left) (a .place) (c .before .before .before .number4 .result) (l .found) (c .if3 .taken)
+        (omega arith) (l .inv .2))
 
 returns-5 : tie.Need-returns-5 Inv-loop μ-loop
 returns-5 c =
     let a = c .before .before .before .before .before .before .before .args in
     let l = c .before .before .loop in
-    sym (walk-over (now (a .bytes)) (l .end) (l .left) (a .place) (c .before .before .before .number4 .result) (l .found) (c .if3 .left) (omega arith) (l .inv .2))
+    sym (walk-over (now (a .bytes)) (l .end) (l .left) (a .place) (c .before .before .before .number4 .result) (l .found) (c .if3 .left)
+        (omega arith) (l .inv .2))
 
 pub walk-spec : {M : Type 1} → statement M
 walk-spec =

@@ -22,33 +22,48 @@ returns-2 c =
     let s = now (c .before .before .before .before .before .before .before .before .before .args .bytes) in
     let o = now (c .before .before .before .before .before .before .before .before .before .args .out) in
     let p = c .before .before .put-text in
-    list-placed s o (p .last .0) tooLong (p .result) (omega arith) (listing-long s (c .before .before .before .before .before .if2 .taken)) (p .ensures)
+    list-placed s o (p .last .0) tooLong (p .result) (omega arith) (listing-long s (c .before .before .before .before .before .if2 .taken))
+        (p .ensures)
 
 returns-3 : tie.Need-returns-3
 returns-3 c =
     let s = now (c .before .before .before .before .before .before .before .before .before .before .before .before .args .bytes) in
     let o = now (c .before .before .before .before .before .before .before .before .before .before .before .before .args .out) in
     let p = c .before .before .put-text2 in
-    let none : refused 7 ≡ entriesAnswer s = sym (ap countedAnswer (c .before .before .before .before .before .enum-told .given .1)) ∙ c .before .before .before .before .before .before .before .entries .ensures .0 in
+    let none : refused 7 ≡ entriesAnswer s = sym (ap countedAnswer (c .before .before .before .before .before .enum-told .given .1))
+        ∙ c .before .before .before .before .before .before .before .entries .ensures .0 in
     list-placed s o (p .last .0) damaged (p .result) (omega arith) (listing-damaged s (omega arith) none) (p .ensures)
 
 put-lines-requires : tie.Need-put-lines-requires
 put-lines-requires c κs =
-    (ap accepted (c .before .wide4 .ensures) ∙ sym (ap countedAnswer (c .before .before .before .counted .given .1)) ∙ c .before .before .before .before .before .entries .ensures .0, omega arith)
+    (ap accepted (c .before .wide4 .ensures) ∙ sym (ap countedAnswer (c .before .before .before .counted .given .1))
+        ∙ c .before .before .before .before .before .entries .ensures .0, omega arith)
 
 returns-4 : tie.Need-returns-4
 returns-4 c =
-    let s = now (c .before .before .before .before .before .before .before .before .before .before .before .before .before .before .before .before .before .before .before .before .before .before .before .args .bytes) in
-    let o = now (c .before .before .before .before .before .before .before .before .before .before .before .before .before .before .before .before .before .before .before .before .before .before .before .args .out) in
-    let p1 = c .before .before .before .before .before .before .before .before .before .before .before .before .put-lines in
-    let p2 = c .before .before .before .before .before .before .before .put-field in
-    let p3 = c .before .before .put-text3 in
-    let n = c .before .before .before .before .before .before .before .before .wide42 .result in
-    let whole : accepted n ≡ entriesAnswer s = ap accepted (c .before .before .before .before .before .before .before .before .wide42 .ensures) ∙ sym (ap countedAnswer (c .before .before .before .before .before .before .before .before .before .before .before .before .before .before .before .before .counted .given .1)) ∙ c .before .before .before .before .before .before .before .before .before .before .before .before .before .before .before .before .before .before .entries .ensures .0 in
+    let c3 = c .before .before in
+    let c2 = c3 .before .before .before .before .before in
+    let c1 = c2 .before .before .before .before .before in
+    let k = c1 .before .before .before .before in
+    let e = k .before .before in
+    let t = e .before in
+    let u = t .before in
+    let s = now (u .before .before .before .args .bytes) in
+    let o = now (u .before .before .before .args .out) in
+    let p1 = c1 .put-lines in
+    let p2 = c2 .put-field in
+    let p3 = c3 .put-text3 in
+    let w = c2 .before .wide42 in
+    let n = w .result in
+    let whole : accepted n ≡ entriesAnswer s = ap accepted (w .ensures) ∙ sym (ap countedAnswer (k .counted .given .1))
+        ∙ e .entries .ensures .0 in
     let all : length o ≤ length o = omega arith in
-    let q2 = placed-before o (p1 .last .1 .1 .0) (p2 .last .0) (p2 .result) (p1 .result) (length o) (field n newline) (linesOf (readRecord s)) all (p1 .ensures .0) (p2 .ensures .0) in
-    let q3 = placed-before o (p2 .last .0) (p3 .last .0) (p3 .result) (p2 .result) (length o) records (field n newline ++ linesOf (readRecord s)) all q2 (p3 .ensures) in
-    list-placed s o (p3 .last .0) (records ++ (field n newline ++ linesOf (readRecord s))) (p3 .result) (c .before .before .before .before .before .before .before .before .before .before .before .before .before .before .before .before .before .before .before .before .if1 .left) (listing-record s n (c .before .before .before .before .before .before .before .before .before .before .before .before .before .before .before .before .before .before .before .if2 .left) whole) q3
+    let q2 = placed-before o (p1 .last .1 .1 .0) (p2 .last .0) (p2 .result) (p1 .result) (length o) (field n newline)
+    (linesOf (readRecord s)) all (p1 .ensures .0) (p2 .ensures .0) in
+    let q3 = placed-before o (p2 .last .0) (p3 .last .0) (p3 .result) (p2 .result) (length o) records
+    (field n newline ++ linesOf (readRecord s)) all q2 (p3 .ensures) in
+    list-placed s o (p3 .last .0) (records ++ (field n newline ++ linesOf (readRecord s))) (p3 .result) (u .if1 .left)
+    (listing-record s n (t .if2 .left) whole) q3
 
 pub list-spec : {M : Type 1} → statement M
 list-spec =

@@ -13,21 +13,25 @@ slice-write-out-2 : tie.Need-slice-write-out-2
 slice-write-out-2 c = simp length-set (omega arith)
 
 put-digits-requires : tie.Need-put-digits-requires
-put-digits-requires c κs = (omega arith, simp length-set (omega arith), omega arith)
+put-digits-requires c κs = (omega arith, (simp length-set (omega arith), omega arith))
 
 same-length : tie.Need-same-length
 same-length c =
     let a = c .before .before .before .before .before .before .args in
     let d = set (set (now (a .out)) (a .end - 1) (a .after)) (a .end - 2) (c .before .before .before .before .digit .result) in
     let l : length d ≡ length (now (a .out)) = simp length-set in
-    let k : length (c .before .before .put-digits .last .0) ≡ length d = placed-length d (c .before .before .put-digits .last .0) (c .before .before .put-digits .result) (a .end - 2) _ (omega arith) (c .before .before .put-digits .ensures .0) in
+    let k : length (c .before .before .put-digits .last .0) ≡ length d =
+        placed-length d (c .before .before .put-digits .last .0) (c .before .before .put-digits .result) (a .end - 2) _ (omega arith)
+        (c .before .before .put-digits .ensures .0) in
     omega arith
 
 returns : tie.Need-returns
 returns c =
     let a = c .before .before .before .before .before .before .args in
     let p = c .before .before .put-digits .ensures in (
-      field-placed (now (a .out)) (c .before .before .put-digits .last .0) (c .before .before .put-digits .result) (a .end) (a .n) (c .before .before .before .before .digit .result) (a .after) (omega arith) (omega arith) (c .before .before .before .before .digit .ensures) (p .0),
+      field-placed (now (a .out)) (c .before .before .put-digits .last .0) (c .before .before .put-digits .result) (a .end) (a .n)
+          (c .before .before .before .before .digit .result) (a .after) (omega arith) (omega arith)
+          (c .before .before .before .before .digit .ensures) (p .0),
       omega (arith, p .1),
     )
 

@@ -8,14 +8,22 @@ use Rattle.record_listing.proofs.put_line.Statement.{statement}
 
 returns : tie.Need-returns
 returns c =
-    let a = c .before .before .before .before .before .before .before .before .before .before .before .before .before .before .before .before .before .before .before .before .args in
-    let p1 = c .before .before .before .before .before .before .before .before .before .before .before .before .before .before .before .before .put-field in
-    let p2 = c .before .before .before .before .before .before .before .before .before .before .before .put-field2 in
-    let p3 = c .before .before .before .before .before .before .put-field3 in
-    let p4 = c .before .before .put-field4 in (
-      line-placed (now (a .out)) (p1 .last .0) (p2 .last .0) (p3 .last .0) (p4 .last .0) (p1 .result) (p2 .result) (p3 .result) (p4 .result) (a .end) (a .place) (a .e .length) (a .e .request) (a .e .count)
-          (c .before .before .before .before .before .before .before .before .before .before .before .before .before .before .before .before .before .wide .result) (c .before .before .before .before .before .before .before .before .before .before .before .before .wide2 .result) (c .before .before .before .before .before .before .before .wide22 .result) (c .before .before .before .before .before .before .before .before .before .before .before .before .before .before .before .before .before .before .before .before .pre .1) (c .before .before .before .before .before .before .before .before .before .before .before .before .before .before .before .before .before .wide .ensures .0) (c .before .before .before .before .before .before .before .before .before .before .before .before .wide2 .ensures .0) (c .before .before .before .before .before .before .before .wide22 .ensures)
-          (p1 .ensures .0) (p2 .ensures .0) (p3 .ensures .0) (p4 .ensures .0),
+    let c4 = c .before .before in
+    let c3 = c4 .before .before .before .before in
+    let c2 = c3 .before .before .before .before .before in
+    let c1 = c2 .before .before .before .before .before in
+    let s = c1 .before .before .before .before in
+    let a = s .args in
+    let p1 = c1 .put-field in
+    let p2 = c2 .put-field2 in
+    let p3 = c3 .put-field3 in
+    let p4 = c4 .put-field4 in
+    let w1 = c1 .before .wide in
+    let w2 = c2 .before .wide2 in
+    let w3 = c3 .before .wide22 in (
+      line-placed (now (a .out)) (p1 .last .0) (p2 .last .0) (p3 .last .0) (p4 .last .0) (p1 .result) (p2 .result) (p3 .result) (p4 .result)
+          (a .end) (a .place) (a .e .length) (a .e .request) (a .e .count) (w1 .result) (w2 .result) (w3 .result) (s .pre .1 .0)
+          (w1 .ensures .0) (w2 .ensures .0) (w3 .ensures) (p1 .ensures .0) (p2 .ensures .0) (p3 .ensures .0) (p4 .ensures .0),
       omega (arith, p1 .ensures .1, p2 .ensures .1, p3 .ensures .1, p4 .ensures .1),
     )
 

@@ -18,7 +18,8 @@ abbrev μ-loop : tie.MeasureT-loop
 loop-holds : tie.Need-loop-holds Inv-loop μ-loop
 loop-holds c =
     let a = c .before .before .before .args in
-    (omega arith, omega arith, hash-rest (a .p) (a .n) (a .s .now) (length (a .s .now) / 4 * 4) (c .hash-of .result) (c .hash-of .ensures .0), c .hash-of .ensures .1)
+    (omega arith, omega arith, hash-rest (a .p) (a .n) (a .s .now) (length (a .s .now) / 4 * 4) (c .hash-of .result)
+        (c .hash-of .ensures .0), c .hash-of .ensures .1)
 
 cast-push-four : tie.Need-cast-push-four Inv-loop μ-loop
 cast-push-four c = omega (arith, c .shared-slice-known2 .given (c .before .before .loop .i - 4))
@@ -38,7 +39,8 @@ loop-again c =
     let a = h .before .before .before .before .args in (
       omega arith,
       omega arith,
-      hash-next-four (a .p) (a .n) (a .s .now) (h .loop .i) (h .loop .r) (c .push-four .result) (omega arith) (omega arith) (h .loop .inv .2) (c .push-four .ensures .0),
+      hash-next-four (a .p) (a .n) (a .s .now) (h .loop .i) (h .loop .r) (c .push-four .result) (omega arith) (omega arith)
+          (h .loop .inv .2) (c .push-four .ensures .0),
       c .push-four .ensures .1,
     )
 

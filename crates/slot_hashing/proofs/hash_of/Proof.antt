@@ -27,7 +27,8 @@ loop-again c =
     let h = c .before .before .before in
     let a = h .before .before .args in (
       omega arith,
-      hash-next (a .p) (a .n) (a .s .now) (h .loop .i) (h .loop .r) (c .push-semi .result) (omega arith) (omega arith) (h .loop .inv .1) (c .push-semi .ensures .0),
+      hash-next (a .p) (a .n) (a .s .now) (h .loop .i) (h .loop .r) (c .push-semi .result) (omega arith) (omega arith) (h .loop .inv .1)
+          (c .push-semi .ensures .0),
       c .push-semi .ensures .1,
     )
 

@@ -18,7 +18,8 @@ mul-result c =
     omega arith
 
 returns : tie.Need-returns
-returns c = let a = c .args in push-is (a .p) (a .n) (a .b) (a .r) _ _ (c .pre .0 .degree) (c .pre .0 .to) (c .pre .1 .0) (c .pre .1 .1) refl refl
+returns c = let a = c .args in push-is (a .p) (a .n) (a .b) (a .r) _ _ (c .pre .0 .degree) (c .pre .0 .to) (c .pre .1 .0) (c .pre .1 .1)
+    refl refl
 
 pub push-spec : {M : Type 1} → statement M
 push-spec =

@@ -1,4 +1,5 @@
--- `day_report::text::fill` meets its contract. The invariant: the text ends inside the buffer, and no more numbers were put than bytes were read.
+-- `day_report::text::fill` meets its contract. The invariant: the text ends inside the buffer, and no more numbers were put than bytes were
+-- read.
 -- Assumes nothing.
 use mathlib.Core.Path.{_≡_}
 use Prim.Native.Nat.{_≤_, _-_}
