@@ -248,10 +248,12 @@ generated-test a = both (ltb (placed 15 (suc a)) 15) (eqb (power 2 (placed 15 (s
 pub generated : (a : ℕ) → a < 16 → a ≢ 0 → (i : ℕ) × (i < 15) × (power 2 i ≡ a)
 unfolding product reduced lowered expanded power placed generated-test
 generated zero h n = absurd (n refl)
-generated (suc a) h n = let t = at 15 generated-test tt a (omega arith) in
-    (placed 15 (suc a), ltb→lt (placed 15 (suc a)) 15
-    (both-left (ltb (placed 15 (suc a)) 15) (eqb (power 2 (placed 15 (suc a))) (suc a)) t),
-    eqb→eq (power 2 (placed 15 (suc a))) (suc a) (both-right (ltb (placed 15 (suc a)) 15) (eqb (power 2 (placed 15 (suc a))) (suc a)) t))
+generated (suc a) h n = let t = at 15 generated-test tt a (omega arith) in (
+  placed 15 (suc a),
+  ltb→lt (placed 15 (suc a)) 15
+      (both-left (ltb (placed 15 (suc a)) 15) (eqb (power 2 (placed 15 (suc a))) (suc a)) t),
+  eqb→eq (power 2 (placed 15 (suc a))) (suc a) (both-right (ltb (placed 15 (suc a)) 15) (eqb (power 2 (placed 15 (suc a))) (suc a)) t),
+)
 
 nonzero-test : ℕ → Bool
 nonzero-test k = ltb 0 (power 2 k)

@@ -14,8 +14,27 @@ use Rattle.record_bytes.specs.declared.Walked.the-variants as walked
 use Rattle.record_bytes.specs.Layout.{RecordEntry, big, trailer, entryBytes, entriesBytes, recordBytes, inRange, AllInRange, IsRecord, most}
 use Rattle.record_bytes.specs.Reading.{readRecord}
 use Rattle.record_bytes.specs.Located.{located, nowhere, locate}
-use Rattle.record.specs.Answers.{accepted, refused, EntryAnswer, newNumber, newBuffer, entriesOf, entriesAnswer, entryOf, entryAnswer,
-    frameAt, frameOf, framePart, mayAddTo, mayAdd, hasRoom, addOf, addAnswer, storedOf, addBuffer}
+use Rattle.record.specs.Answers.{
+  accepted,
+  refused,
+  EntryAnswer,
+  newNumber,
+  newBuffer,
+  entriesOf,
+  entriesAnswer,
+  entryOf,
+  entryAnswer,
+  frameAt,
+  frameOf,
+  framePart,
+  mayAddTo,
+  mayAdd,
+  hasRoom,
+  addOf,
+  addAnswer,
+  storedOf,
+  addBuffer,
+}
 use Rattle.record_bytes.specs.Steps.{walkOf, put, tailOf}
 use Rattle.record_bytes.specs.declared.Located.{Located}
 use Rattle.record_bytes.proofs.Numbers.{Bytes, length-big}
@@ -124,9 +143,9 @@ located-frame (e ∷ es) zero start p q h k = rw (append-assoc (entryBytes e) (e
 located-frame (e ∷ es) (suc place) start p q h k =
     let z : p ++ ((entryBytes e ++ entriesBytes es) ++ q) ≡ (p ++ entryBytes e) ++ (entriesBytes es ++ q) =
     ap (λ (l : List ℕ). p ++ l) (append-assoc (entryBytes e) (entriesBytes es) q)
-        ∙ sym (append-assoc p (entryBytes e) (entriesBytes es ++ q)) in
+    ∙ sym (append-assoc p (entryBytes e) (entriesBytes es ++ q)) in
     let l : length (p ++ entryBytes e) ≡ start + (length (e .frame) + 4) =
-        length-append p (entryBytes e) ∙ ap (λ (n : ℕ). length p + n) (length-entry e) ∙ ap (λ (n : ℕ). n + (length (e .frame) + 4)) h in
+    length-append p (entryBytes e) ∙ ap (λ (n : ℕ). length p + n) (length-entry e) ∙ ap (λ (n : ℕ). n + (length (e .frame) + 4)) h in
     rw z (located-frame es place (start + (length (e .frame) + 4)) (p ++ entryBytes e) q l (omega arith))
 
 number-of : {a b : EntryAnswer} → a ≡ b → a .number ≡ b .number
@@ -138,7 +157,7 @@ found-frame : (s : List ℕ) (place : ℕ) (v : Located) (es : List RecordEntry)
 unfolding recordBytes
 found-frame s place v es true t n l r =
     let i : FrameIn (entriesBytes es ++ big 4 (length es)) (locate es place 0) (frameAt es place) =
-        located-frame es place 0 [] (big 4 (length es)) refl (ltb-true place (length es) t) in
+    located-frame es place 0 [] (big 4 (length es)) refl (ltb-true place (length es) t) in
     rw (r .bytes, ← l) i
 found-frame s place v es false t n l r = absurd (omega arith)
 
@@ -147,7 +166,7 @@ frame-of : (s : List ℕ) (place : ℕ) (v : Located) → Bytes s → (o : Optio
 frame-of s place v b none q r = let z : _≡_ {A = ℕ} 0 7 = number-of r in absurd (omega arith)
 frame-of s place v b (some es) q r =
     found-frame s place v es (ltb place (length es)) refl (sym (number-of r)) (sym (ap (λ (x : EntryAnswer). x .entry) r))
-        (is-read s es b q)
+    (is-read s es b q)
 
 pub frame-found : (s : List ℕ) (place : ℕ) (v : Located) → Bytes s → record { number = 0; entry = v } ≡ entryAnswer s place
     → FrameIn s v (framePart s place)
@@ -265,7 +284,7 @@ unfolding put
 put-stored d used es e size n u t q z h =
     let x : List ℕ = e .frame ++ tailOf (e .request) (e .count) size (n + 1) in
     let l : length x ≡ length (e .frame) + 8 = length-append (e .frame) (tailOf (e .request) (e .count) size (n + 1))
-        ∙ ap (λ (k : ℕ). length (e .frame) + k) (length-tail (e .request) (e .count) size (n + 1)) in
+    ∙ ap (λ (k : ℕ). length (e .frame) + k) (length-tail (e .request) (e .count) size (n + 1)) in
     let g : used - 4 + length x ≡ used + length (e .frame) + 4 = omega arith in
     put-put d (used - 4) (e .frame) (tailOf (e .request) (e .count) size (n + 1)) (omega arith)
     ∙ sym (append-assoc (take (used - 4) d) x (drop (used - 4 + length x) d))
@@ -308,7 +327,7 @@ module _ (d : List ℕ) (used : ℕ) (e : RecordEntry) (size : ℕ) where
   -- of a whole record in the used bytes
   pub whole-used : used ≤ length d → Bytes d → (n : ℕ) (v : Located) → walkOf (readRecord (take used d)) 0 ≡ walked.Whole n v
       → (es : List RecordEntry) × (readRecord (take used d) ≡ some es) × (n ≡ length es) × (used ≡ length (entriesBytes es) + 4)
-          × (take (used - 4) d ≡ entriesBytes es)
+      × (take (used - 4) d ≡ entriesBytes es)
   whole-used h b n v w = go (readRecord (take used d)) refl w
     where
       sizes : (es : List RecordEntry) → take used d ≡ entriesBytes es ++ big 4 (length es)
@@ -316,13 +335,13 @@ module _ (d : List ℕ) (used : ℕ) (e : RecordEntry) (size : ℕ) where
       sizes es r =
           let l : used ≡ length (entriesBytes es) + 4 =
           sym (length-take-le used d h) ∙ ap length r ∙ length-append (entriesBytes es) (big 4 (length es))
-              ∙ ap (λ (k : ℕ). length (entriesBytes es) + k) (length-big 4 (length es)) in
+          ∙ ap (λ (k : ℕ). length (entriesBytes es) + k) (length-big 4 (length es)) in
           let t : take (used - 4) (take used d) ≡ take (used - 4) d = take-take (used - 4) used d (omega arith) in
           (l, sym t ∙ ap (take (used - 4)) r ∙ take-at (entriesBytes es) (big 4 (length es)) (used - 4) (omega arith))
 
       go : (o : Option (List RecordEntry)) → readRecord (take used d) ≡ o → walkOf o 0 ≡ walked.Whole n v
           → (es : List RecordEntry) × (readRecord (take used d) ≡ some es) × (n ≡ length es) × (used ≡ length (entriesBytes es) + 4)
-              × (take (used - 4) d ≡ entriesBytes es)
+          × (take (used - 4) d ≡ entriesBytes es)
       go none q r = let z : _≡_ {A = ℕ} 0 1 = cc in absurd (omega arith)
       go (some es) q r =
           let f = sizes es (record-bytes (take used d) es (is-read (take used d) es (bytes-take d used b) q)) in
@@ -335,7 +354,7 @@ module _ (d : List ℕ) (used : ℕ) (e : RecordEntry) (size : ℕ) where
     where
       go : (o : Option (List RecordEntry)) → readRecord (take used d) ≡ o → walkOf o 0 ≡ walked.Broken
           → (refused 7 ≡ cond (mayAdd d used e size) (addOf (readRecord (take used d)) d used e) (refused 1))
-              × (d ≡ cond (mayAdd d used e size) (storedOf (readRecord (take used d)) d used e) d)
+          × (d ≡ cond (mayAdd d used e size) (storedOf (readRecord (take used d)) d used e) d)
       go none q r = (simp (m, q), simp (m, q))
       go (some es) q r = let z : _≡_ {A = ℕ} 0 1 = cc in absurd (omega arith)
 
@@ -351,7 +370,7 @@ module _ (d : List ℕ) (used : ℕ) (e : RecordEntry) (size : ℕ) where
       → used + length (e .frame) + 4 ≤ length d → used + length (e .frame) + 4 ≤ 65536
       → (accepted (used + length (e .frame) + 4) ≡ addAnswer d used e size)
       × (put (put d (used - 4) (e .frame)) (used - 4 + length (e .frame)) (tailOf (e .request) (e .count) size (n + 1)) ≡ addBuffer d used e
-          size)
+      size)
   unfolding addAnswer addBuffer
   add-stored m b n v w h k =
       let a = allowed m in

@@ -12,12 +12,35 @@ use lib.ListN.{length, take, drop, replicate, length-append}
 use lib.Seq.{take-at, drop-at}
 use borrow.Author.Tests.{lt-ltb, leb-true, le-leb}
 use Rattle.record_bytes.specs.declared.Walked.the-variants as walked
-use Rattle.record_bytes.specs.Layout.{RecordEntry, big, trailer, entryBytes, entriesBytes, recordBytes, inRange, EntryInRange, IsRecord,
-    most}
+use Rattle.record_bytes.specs.Layout.{
+  RecordEntry,
+  big,
+  trailer,
+  entryBytes,
+  entriesBytes,
+  recordBytes,
+  inRange,
+  EntryInRange,
+  IsRecord,
+  most,
+}
 use Rattle.record_bytes.specs.Reading.{number, readRecord}
 use Rattle.record_bytes.specs.Located.{located, locate}
-use Rattle.record.specs.Answers.{Answer, accepted, refused, entriesOf, entriesAnswer, entryAnswer, frameAt, framePart, mayAddTo,
-    mayAdd, hasRoom, addAnswer, addBuffer}
+use Rattle.record.specs.Answers.{
+  Answer,
+  accepted,
+  refused,
+  entriesOf,
+  entriesAnswer,
+  entryAnswer,
+  frameAt,
+  framePart,
+  mayAddTo,
+  mayAdd,
+  hasRoom,
+  addAnswer,
+  addBuffer,
+}
 use Rattle.record_bytes.specs.Steps.{walkOf}
 use Rattle.record.specs.Meaning.{CountMeans, entryFrom, Stored}
 use Rattle.record_bytes.specs.declared.Located.{Located}
@@ -35,14 +58,14 @@ pub record-exactly : (s : List ℕ) (es : List RecordEntry) → Bytes s → (rea
 record-exactly s es b = (is-read s es b, read-record s es)
 
 means-of : (s : List ℕ) (n : ℕ) (v : Located) → Bytes s → (o : Option (List RecordEntry)) → readRecord s ≡ o → walkOf o 0 ≡ walked.Whole n v
-    → CountMeans 0 n s
+    → CountMeans (accepted n) s
 means-of s n v b none q w = let z : _≡_ {A = ℕ} 0 1 = cc in absurd (omega arith)
 means-of s n v b (some es) q w = (es, is-read s es b q, cc)
 
-pub count-means : (s : List ℕ) (n : ℕ) (v : Located) → Bytes s → walkOf (readRecord s) 0 ≡ walked.Whole n v → CountMeans 0 n s
+pub count-means : (s : List ℕ) (n : ℕ) (v : Located) → Bytes s → walkOf (readRecord s) 0 ≡ walked.Whole n v → CountMeans (accepted n) s
 count-means s n v b w = means-of s n v b (readRecord s) refl w
 
-pub none-means : (s : List ℕ) → walkOf (readRecord s) 0 ≡ walked.Broken → CountMeans 7 0 s
+pub none-means : (s : List ℕ) → walkOf (readRecord s) 0 ≡ walked.Broken → CountMeans (refused 7) s
 none-means s w es r =
     let q : readRecord s ≡ some es = read-record s es r in
     let t : walkOf (some es) 0 ≡ walked.Broken = rw q at w in
@@ -59,7 +82,7 @@ locate-last [] e start =
 locate-last (x ∷ es) e start =
     let l : length (entryBytes x) ≡ length (x .frame) + 4 = length-entry x in
     let z : start + (length (x .frame) + 4) + length (entriesBytes es) ≡ start + length (entryBytes x ++ entriesBytes es) =
-        rw (length-append, l) (add-assoc start (length (x .frame) + 4) (length (entriesBytes es))) in
+    rw (length-append, l) (add-assoc start (length (x .frame) + 4) (length (entriesBytes es))) in
     locate-last es e (start + (length (x .frame) + 4)) ∙ ap (located e) z
 
 locate-older : (es : List RecordEntry) (e : RecordEntry) (place start : ℕ) → place < length es
@@ -112,7 +135,7 @@ unfolding recordBytes
 record-length es e used u =
     let l : length (entriesBytes (es ++ (e ∷ []))) ≡ length (entriesBytes es) + (length (e .frame) + 4) =
     ap length (entries-one es e) ∙ length-append (entriesBytes es) (entryBytes e)
-        ∙ ap (λ (k : ℕ). length (entriesBytes es) + k) (length-entry e) in
+    ∙ ap (λ (k : ℕ). length (entriesBytes es) + k) (length-entry e) in
     let b : length (big 4 (length (es ++ (e ∷ [])))) ≡ 4 = length-big 4 (length (es ++ (e ∷ []))) in
     length-append (entriesBytes (es ++ (e ∷ []))) (big 4 (length (es ++ (e ∷ [])))) ∙ (omega arith)
 
@@ -134,7 +157,7 @@ stored d used es e b was r u t h =
     let part : take next after ≡ new = take-at new (drop next d) next l in
     let i = is-read (take used d) es b was in
     let now : readRecord (take next after) ≡ some (es ++ (e ∷ [])) =
-        ap readRecord part ∙ read-bytes (es ++ (e ∷ [])) (ranges-one es e (i .ranges) r) (omega arith) in
+    ap readRecord part ∙ read-bytes (es ++ (e ∷ [])) (ranges-one es e (i .ranges) r) (omega arith) in
     let w = record-entry es e (drop next d) in
     let st : length (entriesBytes es) ≡ used - 4 = omega arith in
     record {
@@ -147,7 +170,7 @@ stored d used es e b was r u t h =
       same-frame = older-frame (take used d) (take next after) es e was now;
       bytes = ap (λ (x : List ℕ). take (length (entryBytes e)) (drop (used - 4) x)) (w .1)
           ∙ ap (take (length (entryBytes e))) (drop-at (entriesBytes es) (entryBytes e ++ w .0) (used - 4) st)
-              ∙ take-at (entryBytes e) (w .0) (length (entryBytes e)) refl;
+          ∙ take-at (entryBytes e) (w .0) (length (entryBytes e)) refl;
       front = ap (take (used - 4)) (w .1) ∙ take-at (entriesBytes es) (entryBytes e ++ w .0) (used - 4) st ∙ sym t;
       past = drop-at new (drop next d) next l;
     }
@@ -168,7 +191,7 @@ module _ (d : List ℕ) (used : ℕ) (e : RecordEntry) (size : ℕ) (m : mayAdd 
   entry-ranges =
       let f = and-right (leb used (length d) && leb used most) (inRange (e .request) (e .count) size && eqb size (length (e .frame))) m in
       ap (inRange (e .request) (e .count)) (sym (allowed d used e size m .sized))
-          ∙ and-left (inRange (e .request) (e .count) size) (eqb size (length (e .frame))) f
+      ∙ and-left (inRange (e .request) (e .count) size) (eqb size (length (e .frame))) f
 
   -- an entry called stored is stored
   pub add-stores : Bytes d → (n : ℕ) (v : Located) → walkOf (readRecord (take used d)) 0 ≡ walked.Whole n v → hasRoom d used e ≡ true

@@ -5,13 +5,16 @@ use mathlib.Core.List.{List}
 use Prim.Native.Nat.{ℕ, zero, suc, _-_, _<_}
 use lib.ListN.{length, take, drop}
 use Rattle.record_bytes.specs.Layout.{RecordEntry, entryBytes, IsRecord}
-use Rattle.record.specs.Answers.{accepted, EntryAnswer, entriesAnswer, entryAnswer, framePart}
+use Rattle.record.specs.Answers.{Answer, accepted, EntryAnswer, entriesAnswer, entryAnswer, framePart}
 use Rattle.record_bytes.specs.Located.{located}
 
--- accepted with n: a record of n entries; refused: no list of entries at all has these bytes
-abbrev pub CountMeans : ℕ → ℕ → List ℕ → Type 0
-CountMeans zero n s = (es : List RecordEntry) × IsRecord s es × (n ≡ length es)
-CountMeans (suc number) n s = (es : List RecordEntry) → IsRecord s es → ⊥
+abbrev pub Counts : ℕ → ℕ → List ℕ → Type 0
+Counts zero n s = (es : List RecordEntry) × IsRecord s es × (n ≡ length es)
+Counts (suc number) n s = (es : List RecordEntry) → IsRecord s es → ⊥
+
+-- accepted: a record of so many entries; refused: no list of entries at all has these bytes
+abbrev pub CountMeans : Answer → List ℕ → Type 0
+CountMeans a s = Counts (a .number) (a .value) s
 
 -- an entry that is found, whose frame starts at `start`
 abbrev pub entryFrom : RecordEntry → ℕ → EntryAnswer
@@ -35,7 +38,10 @@ pub record Stored (buffer after : List ℕ) (used next : ℕ) (e : RecordEntry) 
   pub front : take (used - 4) after ≡ take (used - 4) buffer
   pub past : drop next after ≡ drop next buffer
 
+abbrev pub Stores : ℕ → ℕ → List ℕ → List ℕ → ℕ → RecordEntry → Type 0
+Stores zero next buffer after used e = Stored buffer after used next e
+Stores (suc number) next buffer after used e = after ≡ buffer
+
 -- accepted with the new used length: the entry is stored, and all older ones read as before; refused: the buffer is as lent
-abbrev pub StoredBy : ℕ → ℕ → List ℕ → List ℕ → ℕ → RecordEntry → Type 0
-StoredBy zero next buffer after used e = Stored buffer after used next e
-StoredBy (suc number) next buffer after used e = after ≡ buffer
+abbrev pub StoredBy : Answer → List ℕ → List ℕ → ℕ → RecordEntry → Type 0
+StoredBy a buffer after used e = Stores (a .number) (a .value) buffer after used e

@@ -2,7 +2,8 @@
 // It stands over `record_bytes`. Each public function is total and equals its definition in specs/Answers.antt, the lent buffer too;
 // specs/Layout.antt of `record_bytes` says which bytes a list of entries is. Nothing is written before the last test.
 ghost use mathlib.Core.Path.{_≡_};
-ghost use Rattle.record.specs.Answers.{madeNumber, newNumber, newBuffer, countedAnswer, entriesAnswer, foundAnswer, entryAnswer, framePart, mayAddTo, addedAnswer, addAnswer, addBuffer, asked};
+ghost use Rattle.record.specs.Answers.{madeNumber, newNumber, newBuffer, countedAnswer, entriesAnswer, foundAnswer, entryAnswer, framePart};
+ghost use Rattle.record.specs.Answers.{mayAddTo, addedAnswer, addAnswer, addBuffer, asked};
 ghost use Rattle.record.specs.Meaning.{CountMeans, StoredBy};
 pub use record_bytes::Located;
 use record_bytes::Walked;
@@ -108,7 +109,7 @@ pub fn new(buffer: &mut [u8]) -> Made
 // The number of entries of a record.
 pub fn entries(bytes: &[u8]) -> Counted
     ensures { λ r. ⌜ countedAnswer r ≡ entriesAnswer (now (bytes .entry)) ⌝ }
-    ensures { λ r. ⌜ CountMeans (countedAnswer r .number) (countedAnswer r .value) (now (bytes .entry)) ⌝ }
+    ensures { λ r. ⌜ CountMeans (countedAnswer r) (now (bytes .entry)) ⌝ }
 {
     let walked = walk(bytes, 0);
     match walked {
@@ -173,7 +174,7 @@ pub fn add(
 ) -> Added
     ensures { λ r. ⌜ addedAnswer r ≡ addAnswer (now (buffer .entry)) used (asked (now (frame .entry)) request count) length ⌝ }
     ensures { λ r. ⌜ now (buffer .exit) ≡ addBuffer (now (buffer .entry)) used (asked (now (frame .entry)) request count) length ⌝ }
-    ensures { λ r. ⌜ StoredBy (addedAnswer r .number) (addedAnswer r .value) (now (buffer .entry)) (now (buffer .exit)) used (asked (now (frame .entry)) request count) ⌝ }
+    ensures { λ r. ⌜ StoredBy (addedAnswer r) (now (buffer .entry)) (now (buffer .exit)) used (asked (now (frame .entry)) request count) ⌝ }
 {
     if may_add(buffer.len(), used, frame.len(), request, count, length) {
         let walked = walk(&buffer[..used], 0);

@@ -57,8 +57,13 @@ ending-before s end size h q m =
     let i : Bool = inRange (getD s (end - 4) 0) (getD s (end - 3) 0) size in
     let k : size + 4 ≤ end = leb-true (size + 4) end (and-left (leb (size + 4) end) i m) in
     let l : length (entryEnding s end size .frame) ≡ size = ending-length s end size h k in
-    record { size = l ∙ q; fits = omega arith; ranges = ending-ranges s end size (and-right (leb (size + 4) end) i m) l; found = ap
-        (entryEnding s end) (sym l) }
+    record {
+      size = l ∙ q;
+      fits = omega arith;
+      ranges = ending-ranges s end size (and-right (leb (size + 4) end) i m) l;
+      found = ap
+          (entryEnding s end) (sym l);
+    }
 
 pub before-of : (s : List ℕ) (end : ℕ) (e : RecordEntry) → end ≤ length s → entryBefore s end ≡ some e → Before s end e
 unfolding entryBefore
@@ -118,28 +123,28 @@ before-entry p e q r =
     let end : ℕ = length p + (n + 4) in
     let lr = in-range-of (e .request) (e .count) n r in
     let z1 : s ≡ p ++ (f ++ (e .request ∷ e .count ∷ (big 2 n ++ q))) =
-        ap (λ (l : List ℕ). p ++ l) (append-assoc f (e .request ∷ e .count ∷ big 2 n) q) in
+    ap (λ (l : List ℕ). p ++ l) (append-assoc f (e .request ∷ e .count ∷ big 2 n) q) in
     let z2 : s ≡ (p ++ f) ++ (e .request ∷ e .count ∷ (big 2 n ++ q)) =
-        z1 ∙ sym (append-assoc p f (e .request ∷ e .count ∷ (big 2 n ++ q))) in
+    z1 ∙ sym (append-assoc p f (e .request ∷ e .count ∷ (big 2 n ++ q))) in
     let z3 : s ≡ ((p ++ f) ++ (e .request ∷ [])) ++ (e .count ∷ (big 2 n ++ q)) =
-        z2 ∙ sym (append-assoc (p ++ f) (e .request ∷ []) (e .count ∷ (big 2 n ++ q))) in
+    z2 ∙ sym (append-assoc (p ++ f) (e .request ∷ []) (e .count ∷ (big 2 n ++ q))) in
     let z4 : s ≡ ((p ++ f) ++ (e .request ∷ e .count ∷ [])) ++ (big 2 n ++ q) =
-        z2 ∙ sym (append-assoc (p ++ f) (e .request ∷ e .count ∷ []) (big 2 n ++ q)) in
+    z2 ∙ sym (append-assoc (p ++ f) (e .request ∷ e .count ∷ []) (big 2 n ++ q)) in
     let l2 : length (p ++ f) ≡ end - 4 = length-append p f ∙ (omega arith) in
     let l3 : length ((p ++ f) ++ (e .request ∷ [])) ≡ end - 3 = length-append (p ++ f) (e .request ∷ []) ∙ (omega arith) in
     let l4 : length ((p ++ f) ++ (e .request ∷ e .count ∷ [])) ≡ end - 2 =
-        length-append (p ++ f) (e .request ∷ e .count ∷ []) ∙ (omega arith) in
+    length-append (p ++ f) (e .request ∷ e .count ∷ []) ∙ (omega arith) in
     let size : number s (end - 2) 2 ≡ n = ap (λ (t : List ℕ). number t (end - 2) 2) z4
-        ∙ ap (λ (i : ℕ). number (((p ++ f) ++ (e .request ∷ e .count ∷ [])) ++ (big 2 n ++ q)) i 2) (sym l4)
-        ∙ number-big 2 n ((p ++ f) ++ (e .request ∷ e .count ∷ [])) q (omega arith) in
+    ∙ ap (λ (i : ℕ). number (((p ++ f) ++ (e .request ∷ e .count ∷ [])) ++ (big 2 n ++ q)) i 2) (sym l4)
+    ∙ number-big 2 n ((p ++ f) ++ (e .request ∷ e .count ∷ [])) q (omega arith) in
     let rq : getD s (end - 4) 0 ≡ e .request = ap (λ (t : List ℕ). getD t (end - 4) 0) z2
-        ∙ getD-at (p ++ f) (e .request) (e .count ∷ (big 2 n ++ q)) 0 (end - 4) l2 in
+    ∙ getD-at (p ++ f) (e .request) (e .count ∷ (big 2 n ++ q)) 0 (end - 4) l2 in
     let ct : getD s (end - 3) 0 ≡ e .count = ap (λ (t : List ℕ). getD t (end - 3) 0) z3
-        ∙ getD-at ((p ++ f) ++ (e .request ∷ [])) (e .count) (big 2 n ++ q) 0 (end - 3) l3 in
+    ∙ getD-at ((p ++ f) ++ (e .request ∷ [])) (e .count) (big 2 n ++ q) 0 (end - 3) l3 in
     let st : length p ≡ end - (n + 4) = omega arith in
     let fr : take n (drop (end - (n + 4)) s) ≡ f =
     ap (λ (t : List ℕ). take n (drop (end - (n + 4)) t)) z1
-        ∙ ap (take n) (drop-at p (f ++ (e .request ∷ e .count ∷ (big 2 n ++ q))) (end - (n + 4)) st)
+    ∙ ap (take n) (drop-at p (f ++ (e .request ∷ e .count ∷ (big 2 n ++ q))) (end - (n + 4)) st)
     ∙ take-at f (e .request ∷ e .count ∷ (big 2 n ++ q)) n refl in
     let k : leb (n + 4) end ≡ true = le-leb (n + 4) end (omega arith) in
     simp (size, rq, ct, fr, k, r)

@@ -11,8 +11,18 @@ use lib.Dec.{leb, eqb}
 use lib.ListN.{length, take, drop, length-append, length-drop, take-append-drop}
 use lib.Seq.{take-all}
 use borrow.Author.Tests.{leb-true, le-leb, eqb-true}
-use Rattle.record_bytes.specs.Layout.{RecordEntry, big, trailer, entryBytes, entriesBytes, recordBytes, EntryInRange, AllInRange,
-    IsRecord, most}
+use Rattle.record_bytes.specs.Layout.{
+  RecordEntry,
+  big,
+  trailer,
+  entryBytes,
+  entriesBytes,
+  recordBytes,
+  EntryInRange,
+  AllInRange,
+  IsRecord,
+  most,
+}
 use Rattle.record_bytes.specs.Reading.{number, entryBefore, thenRead, readBack, readRecord}
 use Rattle.record_bytes.proofs.Numbers.{Bytes, number-big, big-number, length-big}
 use Rattle.record_bytes.proofs.Before.{Before, before-of, before-bytes, before-entry}
@@ -61,7 +71,7 @@ step-back s q es e later z r =
     let p : List ℕ = entriesBytes es in
     let m : ℕ = length (e .frame) + 4 in
     let l : length (entriesBytes (es ++ (e ∷ []))) ≡ length p + m = ap length (entries-one es e) ∙ length-append p (entryBytes e)
-        ∙ ap (λ (n : ℕ). length p + n) (length-entry e) in
+    ∙ ap (λ (n : ℕ). length p + n) (length-entry e) in
     let f : entryBefore s (length p + m) ≡ some e = ap (λ (t : List ℕ). entryBefore t (length p + m)) z ∙ before-entry p e q r in
     let d : length p + m - m ≡ length p = add-sub-cancel (length p) m in
     rw (l, length-one es e) (rw f (ap (λ (n : ℕ). readBack s n (length es) (e ∷ later)) d))
@@ -76,9 +86,9 @@ back-of s q (e ∷ newer) older later z a =
     let y : s ≡ entriesBytes ((older ++ (e ∷ [])) ++ newer) ++ q = z ∙ ap (λ (l : List RecordEntry). entriesBytes l ++ q) j in
     let x : s ≡ entriesBytes older ++ (entryBytes e ++ (entriesBytes newer ++ q)) =
     y ∙ ap (λ (l : List ℕ). l ++ q) (entries-append (older ++ (e ∷ [])) newer
-        ∙ ap (λ (l : List ℕ). l ++ entriesBytes newer) (entries-one older e))
+    ∙ ap (λ (l : List ℕ). l ++ entriesBytes newer) (entries-one older e))
     ∙ append-assoc (entriesBytes older ++ entryBytes e) (entriesBytes newer) q
-        ∙ append-assoc (entriesBytes older) (entryBytes e) (entriesBytes newer ++ q) in
+    ∙ append-assoc (entriesBytes older) (entryBytes e) (entriesBytes newer ++ q) in
     ap (λ (l : List RecordEntry). readBack s (length (entriesBytes l)) (length l) later) j
     ∙ back-of s q newer (older ++ (e ∷ [])) later y (a .1)
     ∙ step-back s (entriesBytes newer ++ q) older e (newer ++ later) x (a .0)
@@ -144,7 +154,7 @@ unfolding readBack
 earlier-of s b zero end later es h r = earlier-none s end later es (eqb end 0) refl r
 earlier-of s b (suc n) end later es h r =
     earlier-step s n end later es b h (λ e. earlier-of s b n (end - (length (e .frame) + 4)) (e ∷ later) es (omega arith))
-        (entryBefore s end) refl r
+    (entryBefore s end) refl r
 
 is-read-sized : (s : List ℕ) (es : List RecordEntry) → Bytes s → 4 ≤ length s → length s ≤ most
     → Earlier s (length s - 4) (number s (length s - 4) 4) [] es → IsRecord s es
@@ -154,7 +164,7 @@ is-read-sized s es b h k i =
     let j : es ≡ i .earlier = i .joined ∙ append-nil (i .earlier) in
     let d : drop at s ≡ big 4 (length es) =
     sym (take-all 4 (drop at s) (simp length-drop (omega arith))) ∙ big-number 4 s at b (omega arith)
-        ∙ ap (big 4) (sym (ap length j ∙ i .counted)) in
+    ∙ ap (big 4) (sym (ap length j ∙ i .counted)) in
     record {
       bytes = sym (take-append-drop at s) ∙ ap (λ (l : List ℕ). l ++ drop at s) (i .bytes ∙ ap entriesBytes (sym j))
           ∙ ap (λ (l : List ℕ). entriesBytes es ++ l) d;

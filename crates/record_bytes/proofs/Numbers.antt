@@ -38,10 +38,10 @@ number-big (suc k) n p q h =
     let m : n < 256 ^ k * 256 = rw (pow-suc 256 k) at h in
     let d : n / 256 < 256 ^ k = div-lt-iff-lt-mul {k = 256} (omega arith) .1 m in
     let a : p ++ (big k (n / 256) ++ (n % 256 ∷ []) ++ q) ≡ p ++ (big k (n / 256) ++ (n % 256 ∷ q)) =
-        ap (λ (l : List ℕ). p ++ l) (append-assoc (big k (n / 256)) (n % 256 ∷ []) q) in
+    ap (λ (l : List ℕ). p ++ l) (append-assoc (big k (n / 256)) (n % 256 ∷ []) q) in
     let ih : number (p ++ (big k (n / 256) ++ (n % 256 ∷ q))) (length p) k ≡ n / 256 = number-big k (n / 256) p (n % 256 ∷ q) d in
     let l : length (p ++ big k (n / 256)) ≡ length p + k =
-        length-append p (big k (n / 256)) ∙ ap (λ (j : ℕ). length p + j) (length-big k (n / 256)) in
+    length-append p (big k (n / 256)) ∙ ap (λ (j : ℕ). length p + j) (length-big k (n / 256)) in
     let b : getD (p ++ (big k (n / 256) ++ (n % 256 ∷ q))) (length p + k) 0 ≡ n % 256 =
     ap (λ (t : List ℕ). getD t (length p + k) 0) (sym (append-assoc p (big k (n / 256)) (n % 256 ∷ q)))
     ∙ getD-at (p ++ big k (n / 256)) (n % 256) q 0 (length p + k) l in

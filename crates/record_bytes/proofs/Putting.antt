@@ -26,7 +26,7 @@ put-put d at s t h =
     let e : length (take at d) ≡ at = length-take-le at d (omega arith) in
     let m : length (take at d ++ s) ≡ at + length s = length-append (take at d) s ∙ ap (λ (n : ℕ). n + length s) e in
     let b : take at d ++ (s ++ drop (at + length s) d) ≡ (take at d ++ s) ++ drop (at + length s) d =
-        sym (append-assoc (take at d) s (drop (at + length s) d)) in
+    sym (append-assoc (take at d) s (drop (at + length s) d)) in
     let tk : take (at + length s) (take at d ++ (s ++ drop (at + length s) d)) ≡ take at d ++ s =
     ap (take (at + length s)) b ∙ take-at (take at d ++ s) (drop (at + length s) d) (at + length s) m in
     let dr : drop (at + length s) (take at d ++ (s ++ drop (at + length s) d)) ≡ drop (at + length s) d =

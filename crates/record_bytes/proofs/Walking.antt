@@ -36,11 +36,11 @@ module _ (s : List ℕ) (end size : ℕ) (z : size ≡ number s (end - 2) 2) whe
 
   pub step-entry : end ≤ length s → size + 4 ≤ end → inRange (getD s (end - 4) 0) (getD s (end - 3) 0) size ≡ true
       → stepOf (entryBefore s end) end ≡ step.Entry
-          (record { start = end - (size + 4); length = size; request = getD s (end - 4) 0; count = getD s (end - 3) 0 })
+      (record { start = end - (size + 4); length = size; request = getD s (end - 4) 0; count = getD s (end - 3) 0 })
   unfolding entryBefore mayEnd entryEnding
   step-entry h k r =
       let l : length (take size (drop (end - (size + 4)) s)) ≡ size =
-          length-take-le size (drop (end - (size + 4)) s) (simp length-drop (omega arith)) in
+      length-take-le size (drop (end - (size + 4)) s) (simp length-drop (omega arith)) in
       rw (← z) (simp (le-leb (size + 4) end k, r, l))
 
 -- ---- reading on from a step

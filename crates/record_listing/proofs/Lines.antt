@@ -16,8 +16,21 @@ use Rattle.record_bytes.specs.Reading.{number, entryBefore, readBack, readRecor
 use Rattle.record_bytes.specs.Located.{located}
 use Rattle.record.specs.Answers.{Answer, accepted, refused, entriesOf, entriesAnswer}
 use Rattle.record_bytes.specs.Steps.{stepOf, put, Placed}
-use Rattle.record_listing.specs.Listing.{field, line, lines, linesOf, space, newline, records, damaged, tooLong, listingOf, listing,
-    listAnswer, listBuffer}
+use Rattle.record_listing.specs.Listing.{
+  field,
+  line,
+  lines,
+  linesOf,
+  space,
+  newline,
+  records,
+  damaged,
+  tooLong,
+  listingOf,
+  listing,
+  listAnswer,
+  listBuffer,
+}
 use Rattle.record_bytes.specs.declared.Located.{Located}
 use Rattle.record_bytes.proofs.Numbers.{Bytes, number-big, length-big}
 use Rattle.record_bytes.proofs.Before.{Before, before-of, in-range-of}
@@ -35,11 +48,11 @@ pub line-placed : (d d1 d2 d3 d4 : List ℕ) (r1 r2 r3 r4 end place size request
 unfolding line
 line-placed d d1 d2 d3 d4 r1 r2 r3 r4 end place size request count a b c h ea eb ec p1 p2 p3 p4 =
     let q2 : Placed d d2 r2 end (field b space ++ field a newline) =
-        placed-before d d1 d2 r2 r1 end (field b space) (field a newline) h p1 p2 in
+    placed-before d d1 d2 r2 r1 end (field b space) (field a newline) h p1 p2 in
     let q3 : Placed d d3 r3 end (field c space ++ (field b space ++ field a newline)) =
-        placed-before d d2 d3 r3 r2 end (field c space) (field b space ++ field a newline) h q2 p3 in
+    placed-before d d2 d3 r3 r2 end (field c space) (field b space ++ field a newline) h q2 p3 in
     let q4 : Placed d d4 r4 end (field place space ++ (field c space ++ (field b space ++ field a newline))) =
-        placed-before d d3 d4 r4 r3 end (field place space) (field c space ++ (field b space ++ field a newline)) h q3 p4 in
+    placed-before d d3 d4 r4 r3 end (field place space) (field c space ++ (field b space ++ field a newline)) h q3 p4 in
     rw (← ea, ← eb, ← ec) q4
 
 -- ---- what the number of entries says
@@ -68,14 +81,14 @@ listable-is s n es q c r =
     let b : List ℕ = entriesBytes es in
     let z : s ≡ b ++ big 4 (length es) = r .bytes in
     let l : length s ≡ length b + 4 = ap length z ∙ length-append b (big 4 (length es))
-        ∙ ap (λ (k : ℕ). length b + k) (length-big 4 (length es)) in
+    ∙ ap (λ (k : ℕ). length b + k) (length-big 4 (length es)) in
     let e : length s - 4 ≡ length b = omega arith in
     let m : length es ≤ length b = count-most es in
     let h : 24 * length es ≤ length b = entries-least es (r .ranges) in
     let w = r .size in
     let t : number s (length b) 4 ≡ length es =
     ap (λ (x : List ℕ). number x (length b) 4) (z ∙ ap (λ (x : List ℕ). b ++ x) (sym (append-nil (big 4 (length es)))))
-        ∙ number-big 4 (length es) b [] (omega arith) in
+    ∙ number-big 4 (length es) b [] (omega arith) in
     record { es = es; read = q; counted = c; number-is = c ∙ sym t ∙ ap (λ (k : ℕ). number s k 4) (sym e); long = omega arith; short = w }
 
 listable-of : (s : List ℕ) (n : ℕ) → Bytes s → (o : Option (List RecordEntry)) → readRecord s ≡ o → accepted n ≡ entriesOf o → Listable s n
@@ -105,8 +118,11 @@ lining-start s d n h k =
       later = [];
       rest = simp (le-leb 4 (length s) (omega arith), le-leb (length s) 65536 short) (rw (k .number-is) refl);
       counted = add-zero n;
-      text = record { sized = add-zero (length d); placed = sym
-          (ap (λ (m : ℕ). take (length d) d ++ drop m d) (add-zero (length d)) ∙ take-append-drop (length d) d) };
+      text = record {
+        sized = add-zero (length d);
+        placed = sym
+            (ap (λ (m : ℕ). take (length d) d ++ drop m d) (add-zero (length d)) ∙ take-append-drop (length d) d);
+      };
       room = omega arith;
     }
 
@@ -196,7 +212,7 @@ list-placed s out after x r h e p =
     let q : r ≡ length out - length x = omega arith in
     let b : after ≡ take r out ++ x =
     p .placed ∙ ap (λ (m : ℕ). take r out ++ (x ++ drop m out)) z ∙ ap (λ (l : List ℕ). take r out ++ (x ++ l)) (drop-length out)
-        ∙ ap (λ (l : List ℕ). take r out ++ l) (append-nil x) in
+    ∙ ap (λ (l : List ℕ). take r out ++ l) (append-nil x) in
     (simp (le-leb 65536 (length out) h, e) (ap accepted q), simp (le-leb 65536 (length out) h, e) (b ∙ ap (λ (m : ℕ). take m out ++ x) q))
 
 pub listing-long : (s : List ℕ) → 65536 < length s → listing s ≡ tooLong

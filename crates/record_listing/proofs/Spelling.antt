@@ -84,8 +84,10 @@ spelling-start d end n h k =
       fuel = n;
       spelled = append-nil (leading n n);
       enough = omega arith;
-      at-text = record { sized = add-zero end; placed = sym (ap (λ (m : ℕ). take end d ++ drop m d) (add-zero end) ∙ take-append-drop end d)
-          };
+      at-text = record {
+        sized = add-zero end;
+        placed = sym (ap (λ (m : ℕ). take end d ++ drop m d) (add-zero end) ∙ take-append-drop end d);
+      };
       room = let e : end + 3 - end ≡ 3 = omega arith in rw e k;
       low = omega arith;
     }
@@ -93,9 +95,12 @@ spelling-start d end n h k =
 spell-fuel : (d after : List ℕ) (end at rest n fuel : ℕ) (text : List ℕ) → 0 < rest → leading fuel rest ++ text ≡ leading n n → rest ≤ fuel
     → (k : ℕ) × (leading k (rest / 10) ++ ((48 + rest % 10) ∷ text) ≡ leading n n) × (rest / 10 ≤ k)
 spell-fuel d after end at rest n zero text h s e = absurd (omega arith)
-spell-fuel d after end at rest n (suc k) text h s e =
-    (k, sym (append-assoc (leading k (rest / 10)) ((48 + rest % 10) ∷ []) text)
-        ∙ ap (λ (l : List ℕ). l ++ text) (sym (leading-more k rest h)) ∙ s, omega arith)
+spell-fuel d after end at rest n (suc k) text h s e = (
+  k,
+  sym (append-assoc (leading k (rest / 10)) ((48 + rest % 10) ∷ []) text)
+      ∙ ap (λ (l : List ℕ). l ++ text) (sym (leading-more k rest h)) ∙ s,
+  omega arith,
+)
 
 pub spelling-turn : (d after : List ℕ) (end at rest n x : ℕ) → end ≤ length d → 3 ≤ end → 0 < rest → x ≡ 48 + rest % 10
     → Spelling d after end at rest n
@@ -124,7 +129,7 @@ spelling-turn d after end at rest n x h j k e s =
 pub spelling-done : (d after : List ℕ) (end at rest n : ℕ) → rest ≡ 0 → Spelling d after end at rest n → Placed d after at end (leading n n)
 spelling-done d after end at rest n z s =
     subst (Placed d after at end) (sym (ap (λ (l : List ℕ). l ++ s .text) (ap (leading (s .fuel)) z ∙ leading-none (s .fuel))) ∙ s .spelled)
-        (s .at-text)
+    (s .at-text)
 
 -- the last digit and the byte after it stand, and the digits in front of them are put
 pub field-placed : (d e : List ℕ) (r end n x after : ℕ) → 5 ≤ end → end ≤ length d → x ≡ 48 + n % 10
@@ -135,13 +140,13 @@ field-placed d e r end n x after h k z p =
     let o : end - 1 + 1 ≡ end = omega arith in
     let o2 : end - 2 + 1 ≡ end - 1 = omega arith in
     let a : Placed d (set d (end - 1) after) (end - 1) end (after ∷ []) =
-        record { sized = o; placed = set-put d (end - 1) after (omega arith) } in
+    record { sized = o; placed = set-put d (end - 1) after (omega arith) } in
     let b : Placed (set d (end - 1) after) (set (set d (end - 1) after) (end - 2) x) (end - 2) (end - 1) (x ∷ []) =
     record { sized = o2; placed = set-put (set d (end - 1) after) (end - 2) x (omega arith) } in
     let c : Placed d (set (set d (end - 1) after) (end - 2) x) (end - 2) end (x ∷ after ∷ []) =
-        placed-before d (set d (end - 1) after) (set (set d (end - 1) after) (end - 2) x) (end - 2) (end - 1) end (x ∷ []) (after ∷ []) k a
-        b in
+    placed-before d (set d (end - 1) after) (set (set d (end - 1) after) (end - 2) x) (end - 2) (end - 1) end (x ∷ []) (after ∷ []) k a
+    b in
     let f : Placed d e r end (leading (n / 10) (n / 10) ++ (x ∷ after ∷ [])) =
-        placed-before d (set (set d (end - 1) after) (end - 2) x) e r (end - 2) end (leading (n / 10) (n / 10)) (x ∷ after ∷ []) k c p in
+    placed-before d (set (set d (end - 1) after) (end - 2) x) e r (end - 2) end (leading (n / 10) (n / 10)) (x ∷ after ∷ []) k c p in
     subst (Placed d e r end) (ap (λ (y : ℕ). leading (n / 10) (n / 10) ++ (y ∷ after ∷ [])) z
-        ∙ sym (append-assoc (leading (n / 10) (n / 10)) ((48 + n % 10) ∷ []) (after ∷ []))) f
+    ∙ sym (append-assoc (leading (n / 10) (n / 10)) ((48 + n % 10) ∷ []) (after ∷ []))) f

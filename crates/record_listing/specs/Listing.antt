@@ -56,6 +56,10 @@ abbrev pub linesOf : Option (List RecordEntry) → List ℕ
 linesOf none = []
 linesOf (some es) = lines 0 es
 
+-- the lines of the record in these bytes
+abbrev pub linesIn : List ℕ → List ℕ
+linesIn s = linesOf (readRecord s)
+
 abbrev pub listingOf : Option (List RecordEntry) → List ℕ
 listingOf none = damaged
 listingOf (some es) = records ++ (field (length es) newline ++ lines 0 es)

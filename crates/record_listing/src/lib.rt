@@ -4,9 +4,8 @@ ghost use mathlib.Core.Path.{_≡_};
 ghost use Prim.Native.Nat.{_+_, _≤_, _<_};
 ghost use lib.ListN.{length};
 ghost use Rattle.record.specs.Answers.{accepted, entriesAnswer};
-ghost use Rattle.record_bytes.specs.Reading.{readRecord};
 ghost use Rattle.record_bytes.specs.Steps.{Placed};
-ghost use Rattle.record_listing.specs.Listing.{leading, field, line, linesOf, listedAnswer, listAnswer, listBuffer};
+ghost use Rattle.record_listing.specs.Listing.{leading, field, line, linesIn, listedAnswer, listAnswer, listBuffer};
 use record::Counted;
 use record::entries;
 use record_bytes::Located;
@@ -91,7 +90,7 @@ fn put_line(out: &mut [u8], end: usize, place: usize, e: Located) -> usize
 fn put_lines(bytes: &[u8], n: usize, out: &mut [u8]) -> usize
     requires { ⌜ accepted n ≡ entriesAnswer (now bytes) ⌝ }
     requires { ⌜ 65536 ≤ length (now out) ⌝ }
-    ensures { λ r. ⌜ Placed (now (out .entry)) (now (out .exit)) r (length (now (out .entry))) (linesOf (readRecord (now (bytes .entry)))) ⌝ }
+    ensures { λ r. ⌜ Placed (now (out .entry)) (now (out .exit)) r (length (now (out .entry))) (linesIn (now (bytes .entry))) ⌝ }
     ensures { λ r. ⌜ 13 ≤ r ⌝ }
     ensures { λ r. ⌜ n < 10000 ⌝ }
 {

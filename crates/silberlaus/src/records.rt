@@ -2,7 +2,7 @@
 ghost use mathlib.Core.Path.{_≡_};
 ghost use Rattle.record.specs.Answers.{newNumber, newBuffer, entriesAnswer, entryAnswer, asked, addAnswer, addBuffer};
 ghost use Rattle.record.specs.Meaning.{CountMeans, StoredBy};
-ghost use Rattle.silberlaus_records.specs.Records.{answer, entryGiven};
+ghost use Rattle.silberlaus_records.specs.Records.{entriesGiven, entryGiven, addedGiven};
 use silberlaus_records::SilberlausAdded;
 use silberlaus_records::SilberlausEntries;
 use silberlaus_records::SilberlausEntry;
@@ -17,15 +17,15 @@ pub extern "C" fn silberlaus_record_new(buffer: &mut [u8]) -> u8
 
 #[no_mangle]
 pub extern "C" fn silberlaus_record_entries(bytes: &[u8]) -> SilberlausEntries
-    ensures { λ r. ⌜ answer (r .number) (r .entries) ≡ entriesAnswer (now (bytes .entry)) ⌝ }
-    ensures { λ r. ⌜ CountMeans (r .number) (r .entries) (now (bytes .entry)) ⌝ }
+    ensures { λ r. ⌜ entriesGiven r ≡ entriesAnswer (now (bytes .entry)) ⌝ }
+    ensures { λ r. ⌜ CountMeans (entriesGiven r) (now (bytes .entry)) ⌝ }
 {
     silberlaus_records::entries(bytes)
 }
 
 #[no_mangle]
 pub extern "C" fn silberlaus_record_entry(bytes: &[u8], place: usize) -> SilberlausEntry
-    ensures { λ r. ⌜ entryGiven (r .number) (r .request) (r .count) (r .length) (r .start) ≡ entryAnswer (now (bytes .entry)) place ⌝ }
+    ensures { λ r. ⌜ entryGiven r ≡ entryAnswer (now (bytes .entry)) place ⌝ }
 {
     silberlaus_records::entry(bytes, place)
 }
@@ -39,9 +39,9 @@ pub extern "C" fn silberlaus_record_add(
     count: u32,
     length: u32,
 ) -> SilberlausAdded
-    ensures { λ r. ⌜ answer (r .number) (r .used) ≡ addAnswer (now (buffer .entry)) used (asked (now (frame .entry)) request count) length ⌝ }
+    ensures { λ r. ⌜ addedGiven r ≡ addAnswer (now (buffer .entry)) used (asked (now (frame .entry)) request count) length ⌝ }
     ensures { λ r. ⌜ now (buffer .exit) ≡ addBuffer (now (buffer .entry)) used (asked (now (frame .entry)) request count) length ⌝ }
-    ensures { λ r. ⌜ StoredBy (r .number) (r .used) (now (buffer .entry)) (now (buffer .exit)) used (asked (now (frame .entry)) request count) ⌝ }
+    ensures { λ r. ⌜ StoredBy (addedGiven r) (now (buffer .entry)) (now (buffer .exit)) used (asked (now (frame .entry)) request count) ⌝ }
 {
     silberlaus_records::add(buffer, used, frame, request, count, length)
 }

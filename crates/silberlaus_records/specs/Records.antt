@@ -1,13 +1,16 @@
 -- The answers of `record` (its specs/Answers.antt) over the fields of the C structs.
 -- Assumes nothing.
-use Prim.Native.Nat.{ℕ}
 use Rattle.record.specs.Answers.{Answer, EntryAnswer}
+use Rattle.silberlaus_records.specs.declared.SilberlausEntries.{SilberlausEntries}
+use Rattle.silberlaus_records.specs.declared.SilberlausEntry.{SilberlausEntry}
+use Rattle.silberlaus_records.specs.declared.SilberlausAdded.{SilberlausAdded}
 
--- a number of document 01, and the one value that goes with it
-abbrev pub answer : ℕ → ℕ → Answer
-answer number value = record { number = number; value = value }
+abbrev pub entriesGiven : SilberlausEntries → Answer
+entriesGiven r = record { number = r .number; value = r .entries }
 
--- a number of document 01, and an entry's fields in the struct's order
-abbrev pub entryGiven : ℕ → ℕ → ℕ → ℕ → ℕ → EntryAnswer
-entryGiven number request count size start =
-    record { number = number; entry = record { start = start; length = size; request = request; count = count } }
+abbrev pub addedGiven : SilberlausAdded → Answer
+addedGiven r = record { number = r .number; value = r .used }
+
+abbrev pub entryGiven : SilberlausEntry → EntryAnswer
+entryGiven r =
+    record { number = r .number; entry = record { start = r .start; length = r .length; request = r .request; count = r .count } }

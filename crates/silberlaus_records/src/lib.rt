@@ -4,7 +4,7 @@
 ghost use mathlib.Core.Path.{_≡_};
 ghost use Rattle.record.specs.Answers.{newNumber, newBuffer, entriesAnswer, entryAnswer, asked, addAnswer, addBuffer};
 ghost use Rattle.record.specs.Meaning.{CountMeans, StoredBy};
-ghost use Rattle.silberlaus_records.specs.Records.{answer, entryGiven};
+ghost use Rattle.silberlaus_records.specs.Records.{entriesGiven, entryGiven, addedGiven};
 use record::Added;
 use record::Counted;
 use record::Found;
@@ -41,8 +41,8 @@ pub fn new(buffer: &mut [u8]) -> u8
 }
 
 pub fn entries(bytes: &[u8]) -> SilberlausEntries
-    ensures { λ r. ⌜ answer (r .number) (r .entries) ≡ entriesAnswer (now (bytes .entry)) ⌝ }
-    ensures { λ r. ⌜ CountMeans (r .number) (r .entries) (now (bytes .entry)) ⌝ }
+    ensures { λ r. ⌜ entriesGiven r ≡ entriesAnswer (now (bytes .entry)) ⌝ }
+    ensures { λ r. ⌜ CountMeans (entriesGiven r) (now (bytes .entry)) ⌝ }
 {
     let counted = record::entries(bytes);
     match counted {
@@ -71,7 +71,7 @@ fn no_entry(number: u8) -> SilberlausEntry
 }
 
 pub fn entry(bytes: &[u8], place: usize) -> SilberlausEntry
-    ensures { λ r. ⌜ entryGiven (r .number) (r .request) (r .count) (r .length) (r .start) ≡ entryAnswer (now (bytes .entry)) place ⌝ }
+    ensures { λ r. ⌜ entryGiven r ≡ entryAnswer (now (bytes .entry)) place ⌝ }
 {
     let found = record::entry(bytes, place);
     match found {
@@ -102,9 +102,9 @@ pub fn add(
     count: u32,
     length: u32,
 ) -> SilberlausAdded
-    ensures { λ r. ⌜ answer (r .number) (r .used) ≡ addAnswer (now (buffer .entry)) used (asked (now (frame .entry)) request count) length ⌝ }
+    ensures { λ r. ⌜ addedGiven r ≡ addAnswer (now (buffer .entry)) used (asked (now (frame .entry)) request count) length ⌝ }
     ensures { λ r. ⌜ now (buffer .exit) ≡ addBuffer (now (buffer .entry)) used (asked (now (frame .entry)) request count) length ⌝ }
-    ensures { λ r. ⌜ StoredBy (r .number) (r .used) (now (buffer .entry)) (now (buffer .exit)) used (asked (now (frame .entry)) request count) ⌝ }
+    ensures { λ r. ⌜ StoredBy (addedGiven r) (now (buffer .entry)) (now (buffer .exit)) used (asked (now (frame .entry)) request count) ⌝ }
 {
     let added = record::add(buffer, used, frame, request, count, length);
     match added {

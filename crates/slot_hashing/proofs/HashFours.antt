@@ -13,8 +13,22 @@ use Rattle.gf16.specs.Field.{sum}
 use Rattle.slot_laws.specs.Hash.{Degree, pushed}
 use Rattle.slot_hashing.specs.Inner.{lifted, stepsOf, Stepped, semiPushed}
 use Rattle.slot_laws.proofs.Hash.{pushed-lt, sum-below, sum-shifted, sum-scale, xors}
-use Rattle.slot_hashing.proofs.HashTable.{four, lifted-lt, lifted-sum, lifted-low, higher, swap-low, none, digit-fits, step-is,
-    lowest, lowest-step, semi-pushed-lt, place-lt, one-shifted}
+use Rattle.slot_hashing.proofs.HashTable.{
+  four,
+  lifted-lt,
+  lifted-sum,
+  lifted-low,
+  higher,
+  swap-low,
+  none,
+  digit-fits,
+  step-is,
+  lowest,
+  lowest-step,
+  semi-pushed-lt,
+  place-lt,
+  one-shifted,
+}
 
 -- ---- four semi-octets are one lift
 
@@ -24,7 +38,7 @@ semi-lifted : (p n m k c r : ℕ) → 4 + (m + k) ≡ n → Degree p n → r < 2
 unfolding lifted
 semi-lifted p n m k c r e d l =
     let g : c % 16 * 2 ^ m * 2 ^ k ≡ c % 16 * 2 ^ (m + k) =
-        mul-assoc (c % 16) (2 ^ m) (2 ^ k) ∙ ap (λ (y : ℕ). c % 16 * y) (sym (pow-add 2 m k)) in
+    mul-assoc (c % 16) (2 ^ m) (2 ^ k) ∙ ap (λ (y : ℕ). c % 16 * y) (sym (pow-add 2 m k)) in
     let t : c % 16 * 2 ^ (m + k) < 2 ^ n = digit-fits (c % 16) (m + k) n (omega arith) (omega arith) in
     let u : c % 16 * 2 ^ m < 2 ^ n = digit-fits (c % 16) m n (omega arith) (omega arith) in
     let f : lifted p n k (c % 16 * 2 ^ m) ≡ c % 16 * 2 ^ (m + k) = lifted-low p n k (c % 16 * 2 ^ m) (omega arith) ∙ g in
@@ -37,14 +51,14 @@ digits a b c d h k l =
     let x : sum (b * 16) a ≡ b * 16 + a = sum-shifted b 4 a h in
     let y : sum (c * 256) (b * 16 + a) ≡ c * 256 + (b * 16 + a) = sum-shifted c 8 (b * 16 + a) (omega arith) in
     let z : sum (d * 4096) (c * 256 + (b * 16 + a)) ≡ d * 4096 + (c * 256 + (b * 16 + a)) =
-        sum-shifted d 12 (c * 256 + (b * 16 + a)) (omega arith) in
+    sum-shifted d 12 (c * 256 + (b * 16 + a)) (omega arith) in
     ap (λ (s : ℕ). sum (d * 4096) (sum (c * 256) s)) x ∙ ap (sum (d * 4096)) y ∙ z ∙ omega arith
 
 digits-at : (a b c d m : ℕ) → a < 16 → b < 16 → c < 16
     → sum (d * 2 ^ (12 + m)) (sum (c * 2 ^ (8 + m)) (sum (b * 2 ^ (4 + m)) (a * 2 ^ m))) ≡ (a + 16 * b + 256 * c + 4096 * d) * 2 ^ m
 digits-at a b c d m h k l =
     ap₂ sum (higher d 12 m) (ap₂ sum (higher c 8 m) (ap (λ (x : ℕ). sum x (a * 2 ^ m)) (higher b 4 m) ∙ sum-scale (b * 16) a m)
-        ∙ sum-scale (c * 256) (sum (b * 16) a) m)
+    ∙ sum-scale (c * 256) (sum (b * 16) a) m)
     ∙ sum-scale (d * 4096) (sum (c * 256) (sum (b * 16) a)) m
     ∙ ap (λ (x : ℕ). x * 2 ^ m) (digits a b c d h k l)
 
@@ -61,7 +75,7 @@ sixteen p n m a b c d r e g l =
     let l3 : sum r d3 < 2 ^ n = sum-below n r d3 l (digit-fits (d % 16) (12 + m) n (omega arith) (omega arith)) in
     let l2 : sum (sum r d3) d2 < 2 ^ n = sum-below n (sum r d3) d2 l3 (digit-fits (c % 16) (8 + m) n (omega arith) (omega arith)) in
     let l1 : sum (sum (sum r d3) d2) d1 < 2 ^ n = sum-below n (sum (sum r d3) d2) d1 l2
-        (digit-fits (b % 16) (4 + m) n (omega arith) (omega arith)) in
+    (digit-fits (b % 16) (4 + m) n (omega arith) (omega arith)) in
     let s3 = ap (semiPushed p n d) (none p n r) ∙ semi-lifted p n (12 + m) 0 d r (omega arith) g l in
     let s2 = ap (semiPushed p n c) s3 ∙ semi-lifted p n (8 + m) 4 c (sum r d3) (omega arith) g l3 in
     let s1 = ap (semiPushed p n b) s2 ∙ semi-lifted p n (4 + m) 8 b (sum (sum r d3) d2) (omega arith) g l2 in
@@ -89,7 +103,7 @@ paired q x y z w = simp xors
 by-tables : (p n m t q : ℕ) (steps : List ℕ) → 16 + m ≡ n → Degree p n → t < 65536 → q < 2 ^ m → steps ≡ stepsOf p n
     → lifted p n 16 (sum q (t * 2 ^ m))
     ≡ sum (sum (q * 65536) (sum (getD steps (48 + t / 4096) 0) (getD steps (32 + t / 256 % 16) 0)))
-        (sum (getD steps (16 + t / 16 % 16) 0) (getD steps (t % 16) 0))
+    (sum (getD steps (16 + t / 16 % 16) 0) (getD steps (t % 16) 0))
 by-tables p n m t q steps e d h l s =
     let k : n - 16 ≡ m = omega arith in
     let w : 2 ^ n ≡ 65536 * 2 ^ m = ap (λ (x : ℕ). 2 ^ x) (sym e) ∙ pow-add 2 16 m in
@@ -99,7 +113,7 @@ by-tables p n m t q steps e d h l s =
     let b2 : t / 256 % 16 < 16 = omega arith in
     let b3 : t / 4096 < 16 = omega arith in
     let at-is : t * 2 ^ m ≡ sum (t / 4096 * 2 ^ (12 + m))
-        (sum (t / 256 % 16 * 2 ^ (8 + m)) (sum (t / 16 % 16 * 2 ^ (4 + m)) (t % 16 * 2 ^ m))) =
+    (sum (t / 256 % 16 * 2 ^ (8 + m)) (sum (t / 16 % 16 * 2 ^ (4 + m)) (t % 16 * 2 ^ m))) =
     ap (λ (x : ℕ). x * 2 ^ m) t-is ∙ sym (digits-at (t % 16) (t / 16 % 16) (t / 256 % 16) (t / 4096) m b0 b1 b2) in
     let row : (j u : ℕ) → j < 4 → u < 16 → getD steps (16 * j + u) 0 ≡ lifted p n 16 (u * 2 ^ (4 * j + m)) =
     λ j u a b. step-is p n j u steps s a b ∙ ap (λ (x : ℕ). lifted p n 16 (u * 2 ^ (4 * j + x))) k in
@@ -111,7 +125,7 @@ by-tables p n m t q steps e d h l s =
     let g = pow-pos m in
     ap (λ (x : ℕ). lifted p n 16 (sum q x)) at-is
     ∙ lift-four p n q _ _ _ _ d (omega arith) (digit-fits (t / 4096) (12 + m) n b3 (omega arith))
-        (digit-fits (t / 256 % 16) (8 + m) n b2 (omega arith))
+    (digit-fits (t / 256 % 16) (8 + m) n b2 (omega arith))
     (digit-fits (t / 16 % 16) (4 + m) n b1 (omega arith)) (digit-fits (t % 16) m n b0 (omega arith))
     ∙ ap₂ sum (lifted-low p n 16 q (omega arith)) (ap₂ sum (sym e3) (ap₂ sum (sym e2) (ap₂ sum (sym e1) (sym e0))))
     ∙ paired _ _ _ _ _

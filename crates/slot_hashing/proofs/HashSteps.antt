@@ -46,7 +46,7 @@ pub push-is : (p n b r v w : ℕ) → Degree p n → n ≤ 22 → b < 2 → r < 
     → (w ≡ pushed p n b r) × (w < 2 ^ n)
 push-is p n b r v w d h k l e f =
     let x : w ≡ pushed p n b r = f ∙ ap (λ (y : ℕ). bitXor y (y / 2 ^ n * p)) (e ∙ ap (bitXor (2 * r)) (shifted-bit b n k h))
-        ∙ pushed-as p n b r in
+    ∙ pushed-as p n b r in
     let y = pushed-lt p n b r d k l in
     (x, omega arith)
 

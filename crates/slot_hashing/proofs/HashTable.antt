@@ -77,7 +77,7 @@ unfolding pushed
 push-high p i b r =
     let e : 2 * sum r (b * 2 ^ i) ≡ sum (2 * r) (b * 2 ^ suc i) = sym (sum-double r (b * 2 ^ i)) ∙ ap (sum (2 * r)) (twice b i) in
     let z : sum (2 * sum r (b * 2 ^ i)) (0 * 2 ^ suc i) ≡ sum (2 * r) (b * 2 ^ suc i) =
-        ap₂ sum e (zero-mul (2 ^ suc i)) ∙ sum-zero (sum (2 * r) (b * 2 ^ suc i)) in
+    ap₂ sum e (zero-mul (2 ^ suc i)) ∙ sum-zero (sum (2 * r) (b * 2 ^ suc i)) in
     sym (ap (λ (v : ℕ). sum v (v / 2 ^ suc i * p)) z)
 
 -- and k powers before that as the bit k places lower
@@ -105,7 +105,7 @@ semi-bits c =
     let d : c / 2 % 2 ≡ c % 16 / 2 % 2 = omega arith in
     let e : c % 2 ≡ c % 16 % 2 = omega arith in
     let f : sum (sum (sum (c / 8 % 2 * 8) (c / 4 % 2 * 4)) (c / 2 % 2 * 2)) (c % 2) ≡ sum
-        (sum (sum (c % 16 / 8 % 2 * 8) (c % 16 / 4 % 2 * 4)) (c % 16 / 2 % 2 * 2)) (c % 16 % 2) =
+    (sum (sum (c % 16 / 8 % 2 * 8) (c % 16 / 4 % 2 * 4)) (c % 16 / 2 % 2 * 2)) (c % 16 % 2) =
     ap₂ sum (ap₂ sum (ap₂ sum (ap (λ (x : ℕ). x * 8) a) (ap (λ (x : ℕ). x * 4) b)) (ap (λ (x : ℕ). x * 2) d)) e in
     f ∙ eqb→eq _ _ (at 16 low-bits tt (c % 16) (omega arith))
 
@@ -118,7 +118,7 @@ semi-high : (c m : ℕ) → sum (sum (sum (c / 8 % 2 * 2 ^ (3 + m)) (c / 4 % 2 *
 semi-high c m =
     ap (λ (x : ℕ). sum x (c % 2 * 2 ^ m))
     (ap₂ sum (ap₂ sum (higher (c / 8 % 2) 3 m) (higher (c / 4 % 2) 2 m) ∙ sum-scale (c / 8 % 2 * 8) (c / 4 % 2 * 4) m)
-        (higher (c / 2 % 2) 1 m)
+    (higher (c / 2 % 2) 1 m)
     ∙ sum-scale (sum (c / 8 % 2 * 8) (c / 4 % 2 * 4)) (c / 2 % 2 * 2) m)
     ∙ sum-scale (sum (sum (c / 8 % 2 * 8) (c / 4 % 2 * 4)) (c / 2 % 2 * 2)) (c % 2) m
     ∙ ap (λ (x : ℕ). x * 2 ^ m) (semi-bits c)
@@ -149,7 +149,7 @@ four p n m c r e d l =
     let l3 : sum r b3 < 2 ^ n = sum-below n r b3 l (placed (c / 8 % 2) (3 + m) n (omega arith) (omega arith)) in
     let l2 : sum (sum r b3) b2 < 2 ^ n = sum-below n (sum r b3) b2 l3 (placed (c / 4 % 2) (2 + m) n (omega arith) (omega arith)) in
     let l1 : sum (sum (sum r b3) b2) b1 < 2 ^ n = sum-below n (sum (sum r b3) b2) b1 l2
-        (placed (c / 2 % 2) (1 + m) n (omega arith) (omega arith)) in
+    (placed (c / 2 % 2) (1 + m) n (omega arith) (omega arith)) in
     let s3 = ap (pushed p n (c / 8 % 2)) (none p n r) ∙ push-at p n (3 + m) 0 (c / 8 % 2) r (omega arith) d (omega arith) l in
     let s2 = ap (pushed p n (c / 4 % 2)) s3 ∙ push-at p n (2 + m) 1 (c / 4 % 2) (sum r b3) (omega arith) d (omega arith) l3 in
     let s1 = ap (pushed p n (c / 2 % 2)) s2 ∙ push-at p n (1 + m) 2 (c / 2 % 2) (sum (sum r b3) b2) (omega arith) d (omega arith) l2 in

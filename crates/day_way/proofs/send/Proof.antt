@@ -10,7 +10,7 @@ use Rattle.day_way.proofs.send.Tie as tie
 array-borrow-prefix-space : tie.Need-array-borrow-prefix-space
 array-borrow-prefix-space c =
     let f = rw (c .before .before .before .before .fit .given .1) at
-        (c .before .before .before .before .before .before .smallest .ensures) in
+    (c .before .before .before .before .before .before .smallest .ensures) in
     omega arith
 
 slice-aggregate-receive : tie.Need-slice-aggregate-receive

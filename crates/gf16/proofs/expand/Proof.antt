@@ -11,9 +11,9 @@ returns : tie.Need-returns
 unfolding expanded
 returns c =
     let x : bitXor (c .before .before .before .term .result) (c .before .before .term2 .result) < 128 =
-        xor-lt 7 (c .before .before .before .term .result) (c .before .before .term2 .result) (omega arith) (omega arith) in
+    xor-lt 7 (c .before .before .before .term .result) (c .before .before .term2 .result) (omega arith) (omega arith) in
     let y : bitXor (c .before .term3 .result) (c .term4 .result) < 128 =
-        xor-lt 7 (c .before .term3 .result) (c .term4 .result) (omega arith) (omega arith) in
+    xor-lt 7 (c .before .term3 .result) (c .term4 .result) (omega arith) (omega arith) in
     (cc, xor-lt 7 _ _ x y)
 
 pub expand-spec : {M : Type 1} → statement M

@@ -17,8 +17,19 @@ use Rattle.record.specs.Answers.{mayAdd}
 use Rattle.record_bytes.specs.Steps.{walkOf, put}
 use Rattle.record_bytes.proofs.Numbers.{Bytes}
 use Rattle.record.proofs.Theorems.{add-stores}
-use Rattle.record.proofs.Answered.{Allowed, allowed, used-known, room-yes, room-buffer, room-most, add-bad, add-none, add-full,
-    add-stored, length-tail}
+use Rattle.record.proofs.Answered.{
+  Allowed,
+  allowed,
+  used-known,
+  room-yes,
+  room-buffer,
+  room-most,
+  add-bad,
+  add-none,
+  add-full,
+  add-stored,
+  length-tail,
+}
 use Rattle.record.proofs.add.Statement.{statement}
 
 -- the buffer and the entry of the call
@@ -55,7 +66,7 @@ bytes c i = omega (arith, c .before .before .before .slice-known .given i)
 -- the used bytes are a record
 whole : (c : tie.After-known-told) → let s = call-of (test-of c) in
     walkOf (readRecord (take (s .args .used) (lent s))) 0 ≡ walked.Whole (c .before .walked .given .0 .0)
-        (c .before .walked .given .0 .1 .0)
+    (c .before .walked .given .0 .1 .0)
 whole c = sym (c .before .before .before .walk .ensures) ∙ c .before .walked .given .1
 
 known : (c : tie.After-known-told) → let s = call-of (test-of c) in (4 ≤ s .args .used) × (c .before .walked .given .0 .0 ≤ s .args .used)
@@ -63,7 +74,7 @@ known c =
     let t = test-of c in
     let s = call-of t in
     used-known (lent s) (s .args .used) (given s) (s .args .length) (ok t .inside) (bytes t) (c .before .walked .given .0 .0)
-        (c .before .walked .given .0 .1 .0) (whole c)
+    (c .before .walked .given .0 .1 .0) (whole c)
 
 slice-reshare-prefix-walk : tie.Need-slice-reshare-prefix-walk
 slice-reshare-prefix-walk c = ok c .inside
@@ -76,7 +87,7 @@ returns : tie.Need-returns
 returns c =
     let s = c .before .before .before .before .before .before .before .before in
     let r = add-none (lent s) (s .args .used) (given s) (s .args .length) (may (c .before .before .before .before))
-        (sym (c .before .before .walk .ensures) ∙ c .enum-told .given .1) in
+    (sym (c .before .before .walk .ensures) ∙ c .enum-told .given .1) in
     (r .0, (r .1, refl))
 
 add-end : tie.Need-add-end
@@ -93,18 +104,18 @@ returns-2 : tie.Need-returns-2
 returns-2 c =
     let s = c .before .before .before .before .before .before .before .before .before .before in
     let r = add-full (lent s) (s .args .used) (given s) (s .args .length) (may (c .before .before .before .before .before .before))
-        (bytes (c .before .before .before .before .before .before)) (c .before .before .walked .given .0 .0)
-        (c .before .before .walked .given .0 .1 .0) (whole (c .before))
-        (room-buffer (lent s) (s .args .used) (given s) (s .args .length) (c .if2 .taken)) in
+    (bytes (c .before .before .before .before .before .before)) (c .before .before .walked .given .0 .0)
+    (c .before .before .walked .given .0 .1 .0) (whole (c .before))
+    (room-buffer (lent s) (s .args .used) (given s) (s .args .length) (c .if2 .taken)) in
     (r .0, (r .1, refl))
 
 returns-3 : tie.Need-returns-3
 returns-3 c =
     let s = c .before .before .before .before .before .before .before .before .before .before .before in
     let r = add-full (lent s) (s .args .used) (given s) (s .args .length) (may (c .before .before .before .before .before .before .before))
-        (bytes (c .before .before .before .before .before .before .before)) (c .before .before .before .walked .given .0 .0)
-        (c .before .before .before .walked .given .0 .1 .0) (whole (c .before .before))
-        (room-most (lent s) (s .args .used) (given s) (s .args .length) (c .if3 .taken)) in
+    (bytes (c .before .before .before .before .before .before .before)) (c .before .before .before .walked .given .0 .0)
+    (c .before .before .before .walked .given .0 .1 .0) (whole (c .before .before))
+    (room-most (lent s) (s .args .used) (given s) (s .args .length) (c .if3 .taken)) in
     (r .0, (r .1, refl))
 
 sub-at : tie.Need-sub-at
@@ -126,41 +137,41 @@ tail-requires c κs =
 copy-in-requires-2 : tie.Need-copy-in-requires-2
 copy-in-requires-2 c κs =
     let s = c .before .before .before .before .before .before .before .before .before .before .before .before .before .before .before
-        .before .before .before in
+    .before .before .before in
     let a = ok (c .before .before .before .before .before .before .before .before .before .before .before .before .before .before) in
     let k = known (c .before .before .before .before .before .before .before .before .before) in
     let t : length (c .before .before .before .before .before .before .tail .result) ≡ 8 =
-        ap length (c .before .before .before .before .before .before .tail .ensures) ∙ length-tail _ _ _ _ in
+    ap length (c .before .before .before .before .before .before .tail .ensures) ∙ length-tail _ _ _ _ in
     omega arith
 
 returns-4 : tie.Need-returns-4
 returns-4 c =
     let s = c .before .before .before .before .before .before .before .before .before .before .before .before .before .before .before
-        .before .before .before .before .before .before in
+    .before .before .before .before .before .before in
     let at = s .args .used - 4 in
     let frame = now (s .args .frame) in
     let stored = add-stored (lent s) (s .args .used) (given s) (s .args .length)
-        (may (c .before .before .before .before .before .before .before .before .before .before .before .before .before .before .before
-        .before .before)) (bytes (c .before .before .before .before .before .before .before .before .before .before .before .before .before
-        .before .before .before .before)) (c .before .before .before .before .before .before .before .before .before .before .before .before
-        .before .walked .given .0 .0) (c .before .before .before .before .before .before .before .before .before .before .before .before
-        .before .walked .given .0 .1 .0) (whole (c .before .before .before .before .before .before .before .before .before .before .before
-        .before)) (omega arith) (omega arith) in
+    (may (c .before .before .before .before .before .before .before .before .before .before .before .before .before .before .before
+    .before .before)) (bytes (c .before .before .before .before .before .before .before .before .before .before .before .before .before
+    .before .before .before .before)) (c .before .before .before .before .before .before .before .before .before .before .before .before
+    .before .walked .given .0 .0) (c .before .before .before .before .before .before .before .before .before .before .before .before
+    .before .walked .given .0 .1 .0) (whole (c .before .before .before .before .before .before .before .before .before .before .before
+    .before)) (omega arith) (omega arith) in
     let left =
     c .before .before .copy-in2 .ensures
     ∙ ap (λ (b : List ℕ). put b (at + length frame)
-        (c .before .before .before .before .before .before .before .before .before .tail .result))
-        (c .before .before .before .before .before .before .before .copy-in .ensures)
+    (c .before .before .before .before .before .before .before .before .before .tail .result))
+    (c .before .before .before .before .before .before .before .copy-in .ensures)
     ∙ ap (λ (t : List ℕ). put (put (lent s) at frame) (at + length frame) t)
-        (c .before .before .before .before .before .before .before .before .before .tail .ensures)
+    (c .before .before .before .before .before .before .before .before .before .tail .ensures)
     ∙ stored .1 in
     let kept = add-stores (lent s) (s .args .used) (given s) (s .args .length)
-        (may (c .before .before .before .before .before .before .before .before .before .before .before .before .before .before .before
-        .before .before)) (bytes (c .before .before .before .before .before .before .before .before .before .before .before .before .before
-        .before .before .before .before)) (c .before .before .before .before .before .before .before .before .before .before .before .before
-        .before .walked .given .0 .0) (c .before .before .before .before .before .before .before .before .before .before .before .before
-        .before .walked .given .0 .1 .0) (whole (c .before .before .before .before .before .before .before .before .before .before .before
-        .before)) (room-yes (lent s) (s .args .used) (given s) (s .args .length) (omega arith) (omega arith)) (omega arith) in
+    (may (c .before .before .before .before .before .before .before .before .before .before .before .before .before .before .before
+    .before .before)) (bytes (c .before .before .before .before .before .before .before .before .before .before .before .before .before
+    .before .before .before .before)) (c .before .before .before .before .before .before .before .before .before .before .before .before
+    .before .walked .given .0 .0) (c .before .before .before .before .before .before .before .before .before .before .before .before
+    .before .walked .given .0 .1 .0) (whole (c .before .before .before .before .before .before .before .before .before .before .before
+    .before)) (room-yes (lent s) (s .args .used) (given s) (s .args .length) (omega arith) (omega arith)) (omega arith) in
     (stored .0, (left, rw left kept))
 
 returns-5 : tie.Need-returns-5

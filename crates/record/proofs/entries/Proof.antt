@@ -12,9 +12,11 @@ returns : tie.Need-returns
 returns c =
     let k = c .before .walked .given in
     let s = now (c .before .before .before .before .before .args .bytes) in
-    let w = sym (c .before .before .before .walk .ensures) ∙ k .1 in
-    (counted s 0 (k .0 .0) (k .0 .1 .0) w, count-means s (k .0 .0) (k .0 .1 .0)
-        (λ i. omega (arith, c .before .before .before .before .shared-slice-known .given i)) w)
+    let w = sym (c .before .before .before .walk .ensures) ∙ k .1 in (
+      counted s 0 (k .0 .0) (k .0 .1 .0) w,
+      count-means s (k .0 .0) (k .0 .1 .0)
+          (λ i. omega (arith, c .before .before .before .before .shared-slice-known .given i)) w,
+    )
 
 returns-2 : tie.Need-returns-2
 returns-2 c =

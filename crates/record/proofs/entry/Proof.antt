@@ -15,15 +15,15 @@ returns-2 : tie.Need-returns-2
 returns-2 c =
     let k = c .before .before .before .walked .given in
     found (now (c .before .before .before .before .before .before .before .args .bytes))
-        (c .before .before .before .before .before .before .before .args .place) (k .0 .0) (k .0 .1 .0) (omega arith)
-        (sym (c .before .before .before .before .before .walk .ensures) ∙ k .1)
+    (c .before .before .before .before .before .before .before .args .place) (k .0 .0) (k .0 .1 .0) (omega arith)
+    (sym (c .before .before .before .before .before .walk .ensures) ∙ k .1)
 
 returns-3 : tie.Need-returns-3
 returns-3 c =
     let k = c .before .before .before .walked .given in
     past (now (c .before .before .before .before .before .before .before .args .bytes))
-        (c .before .before .before .before .before .before .before .args .place) (k .0 .0) (k .0 .1 .0) (omega arith)
-        (sym (c .before .before .before .before .before .walk .ensures) ∙ k .1)
+    (c .before .before .before .before .before .before .before .args .place) (k .0 .0) (k .0 .1 .0) (omega arith)
+    (sym (c .before .before .before .before .before .walk .ensures) ∙ k .1)
 
 pub entry-spec : {M : Type 1} → statement M
 entry-spec =

@@ -17,7 +17,7 @@ stands c =
     let a = c .before .before .before .before .before .before .before .args in
     let v = c .before .before .before .found .given in
     frame-found (now (a .bytes)) (a .place) (v .0 .0)
-        (λ i. omega (arith, c .before .before .before .before .before .before .shared-slice-known .given i))
+    (λ i. omega (arith, c .before .before .before .before .before .before .shared-slice-known .given i))
     (sym (ap foundAnswer (v .1)) ∙ c .before .before .before .before .before .entry .ensures)
 
 part-result-end : tie.Need-part-result-end
@@ -25,21 +25,24 @@ part-result-end c = omega (arith, stands c .within, c .before .wide4 .ensures, c
 
 returns : tie.Need-returns
 returns c =
-    rw (add-sub-cancel-left (c .before .before .wide4 .result) (c .before .wide2 .result), c .before .before .wide4 .ensures,
-        c .before .wide2 .ensures)
+    rw (
+      add-sub-cancel-left (c .before .before .wide4 .result) (c .before .wide2 .result),
+      c .before .before .wide4 .ensures,
+      c .before .wide2 .ensures,
+    )
     (stands (c .before) .bytes)
 
 returns-2 : tie.Need-returns-2
 returns-2 c =
     let a = c .before .before .before .before .before .args in
     frame-none (now (a .bytes)) (a .place) 6 (sym (ap foundAnswer (c .before .enum-told .given .1))
-        ∙ c .before .before .before .entry .ensures)
+    ∙ c .before .before .before .entry .ensures)
 
 returns-3 : tie.Need-returns-3
 returns-3 c =
     let a = c .before .before .before .before .before .args in
     frame-none (now (a .bytes)) (a .place) 0 (sym (ap foundAnswer (c .before .enum-told2 .given .1))
-        ∙ c .before .before .before .entry .ensures)
+    ∙ c .before .before .before .entry .ensures)
 
 pub frame-spec : {M : Type 1} → statement M
 frame-spec =

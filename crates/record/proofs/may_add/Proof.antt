@@ -10,7 +10,7 @@ returns : tie.Need-returns
 returns c =
     let a = c .before .before .before .before .before .before .before .before .args in
     c .in-range .ensures ∙ rw (c .before .before .before .wide42 .ensures, c .before .before .wide43 .ensures, c .before .wide44 .ensures)
-        (may-add-yes (a .used) (a .room) (a .frame) (a .request) (a .count) (a .length) (omega arith) (omega arith) (omega arith))
+    (may-add-yes (a .used) (a .room) (a .frame) (a .request) (a .count) (a .length) (omega arith) (omega arith) (omega arith))
 
 returns-2 : tie.Need-returns-2
 returns-2 c =

@@ -13,7 +13,7 @@ returns-2 : tie.Need-returns-2
 returns-2 c =
     let a = c .before .before .before .before .before .before .before .before .args in
     rw (c .before .before .copy-in .ensures) (new-made (now (a .buffer)) _ (omega arith)
-        (c .before .before .before .before .before .end-number .ensures))
+    (c .before .before .before .before .before .end-number .ensures))
 
 pub new-spec : {M : Type 1} → statement M
 new-spec =

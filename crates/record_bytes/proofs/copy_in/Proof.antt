@@ -23,9 +23,12 @@ loop-holds c = (omega arith, refl, paste-zero (now (c .args .dst)) (c .args .at)
 loop-again : tie.Need-loop-again Inv-loop μ-loop
 loop-again c =
     let a = c .before .before .before .args in
-    let l = c .before .before .loop in
-    (omega arith, simp length-set (l .inv .1), rw (l .inv .2, add-one)
-        (paste-suc (now (a .dst)) (a .at) (now (a .src)) (l .i) 0 (omega arith) (omega arith)))
+    let l = c .before .before .loop in (
+      omega arith,
+      simp length-set (l .inv .1),
+      rw (l .inv .2, add-one)
+          (paste-suc (now (a .dst)) (a .at) (now (a .src)) (l .i) 0 (omega arith) (omega arith)),
+    )
 
 returns : tie.Need-returns Inv-loop μ-loop
 returns c =

@@ -22,9 +22,9 @@ returns-2 c =
     let a = i .before .before .before .before .before .before .before .before .args in
     let n = i .before .before .before .number2 .result in
     let t : inRange (i .before .before .wide .result) (i .before .wide2 .result) n ≡ true =
-        sym (i .in-range .ensures) ∙ c .before .if2 .taken in
+    sym (i .in-range .ensures) ∙ c .before .if2 .taken in
     let r : inRange (getD (now (a .bytes)) (a .end - 4) 0) (getD (now (a .bytes)) (a .end - 3) 0) n ≡ true =
-        rw (i .before .before .wide .ensures .0, i .before .wide2 .ensures .0) at t in
+    rw (i .before .before .wide .ensures .0, i .before .wide2 .ensures .0) at t in
     sym (step-entry (now (a .bytes)) (a .end) n (i .before .before .before .number2 .ensures .0) (omega arith) (c .if3 .taken) r)
 
 returns-3 : tie.Need-returns-3
@@ -32,7 +32,7 @@ returns-3 c =
     let i = c .before .before in
     let a = i .before .before .before .before .before .before .before .before .args in
     sym (step-far (now (a .bytes)) (a .end) (i .before .before .before .number2 .result) (i .before .before .before .number2 .ensures .0)
-        (c .if3 .left))
+    (c .if3 .left))
 
 returns-4 : tie.Need-returns-4
 returns-4 c =
@@ -41,7 +41,7 @@ returns-4 c =
     let n = i .before .before .before .number2 .result in
     let t : inRange (i .before .before .wide .result) (i .before .wide2 .result) n ≡ false = sym (i .in-range .ensures) ∙ c .if2 .left in
     let r : inRange (getD (now (a .bytes)) (a .end - 4) 0) (getD (now (a .bytes)) (a .end - 3) 0) n ≡ false =
-        rw (i .before .before .wide .ensures .0, i .before .wide2 .ensures .0) at t in
+    rw (i .before .before .wide .ensures .0, i .before .wide2 .ensures .0) at t in
     sym (step-out (now (a .bytes)) (a .end) n (i .before .before .before .number2 .ensures .0) r)
 
 pub entry-before-spec : {M : Type 1} → statement M

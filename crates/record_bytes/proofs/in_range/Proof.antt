@@ -9,8 +9,12 @@ returns : tie.Need-returns
 unfolding inRange
 returns c =
     let a = c .before .before .before .before .args in
-    simp (le-leb (a .request) 3 (omega arith), le-leb (a .count) 162 (omega arith), le-leb 20 (a .length) (omega arith),
-        le-leb (a .length) 400 (omega arith))
+    simp (
+      le-leb (a .request) 3 (omega arith),
+      le-leb (a .count) 162 (omega arith),
+      le-leb 20 (a .length) (omega arith),
+      le-leb (a .length) 400 (omega arith),
+    )
 
 returns-2 : tie.Need-returns-2
 unfolding inRange
@@ -22,8 +26,12 @@ returns-3 : tie.Need-returns-3
 unfolding inRange
 returns-3 c =
     let a = c .before .before .before .before .args in
-    simp (le-leb (a .request) 3 (omega arith), le-leb (a .count) 162 (omega arith), le-leb 20 (a .length) (omega arith),
-        lt-leb (a .length) 400 (omega arith))
+    simp (
+      le-leb (a .request) 3 (omega arith),
+      le-leb (a .count) 162 (omega arith),
+      le-leb 20 (a .length) (omega arith),
+      lt-leb (a .length) 400 (omega arith),
+    )
 
 returns-4 : tie.Need-returns-4
 unfolding inRange

@@ -29,16 +29,19 @@ returns-2 c =
 
 loop-holds : tie.Need-loop-holds Inv-loop μ-loop
 loop-holds c =
-    let a = c .before .before .before .before .args in
-    (omega arith, omega arith, walk-start (now (a .bytes)) _ (c .number4 .result) (a .place) (omega arith) (omega arith) refl
-        (c .number4 .ensures .0))
+    let a = c .before .before .before .before .args in (
+      omega arith,
+      omega arith,
+      walk-start (now (a .bytes)) _ (c .number4 .result) (a .place) (omega arith) (omega arith) refl
+          (c .number4 .ensures .0),
+    )
 
 returns-3 : tie.Need-returns-3 Inv-loop μ-loop
 returns-3 c =
     let a = c .before .before .before .before .before .before .before .before .before .args in
     let l = c .before .before .before .before .loop in
     sym (walk-stop (now (a .bytes)) (l .end) (l .left) (a .place) (c .before .before .before .before .before .number4 .result) (l .found)
-        (omega arith) (l .inv .2)
+    (omega arith) (l .inv .2)
     (sym (c .before .before .entry-before .ensures) ∙ c .enum-told .given .1))
 
 loop-again : tie.Need-loop-again Inv-loop μ-loop
@@ -47,8 +50,8 @@ loop-again c =
     let l = c .before .before .before .before .before .before .before .loop in
     let v = c .before .before .before .step .given .0 .0 in
     let t = turn (now (a .bytes)) (l .end) (l .left) (a .place)
-        (c .before .before .before .before .before .before .before .before .number4 .result) (l .found) v (l .inv .0) (omega arith)
-        (l .inv .2)
+    (c .before .before .before .before .before .before .before .before .number4 .result) (l .found) v (l .inv .0) (omega arith)
+    (l .inv .2)
     (sym (c .before .before .before .before .before .entry-before .ensures) ∙ c .before .before .before .step .given .1) in
     let low = t .lower in
     (omega arith, omega arith, rw (c .wide4 .ensures, c .before .kept .ensures) (t .walking))
@@ -58,14 +61,14 @@ returns-4 c =
     let a = c .before .before .before .before .before .before .before .args in
     let l = c .before .before .loop in
     sym (walk-whole (now (a .bytes)) (l .end) (l .left) (a .place) (c .before .before .before .number4 .result) (l .found) (c .if3 .taken)
-        (omega arith) (l .inv .2))
+    (omega arith) (l .inv .2))
 
 returns-5 : tie.Need-returns-5 Inv-loop μ-loop
 returns-5 c =
     let a = c .before .before .before .before .before .before .before .args in
     let l = c .before .before .loop in
     sym (walk-over (now (a .bytes)) (l .end) (l .left) (a .place) (c .before .before .before .number4 .result) (l .found) (c .if3 .left)
-        (omega arith) (l .inv .2))
+    (omega arith) (l .inv .2))
 
 pub walk-spec : {M : Type 1} → statement M
 walk-spec =

@@ -9,9 +9,8 @@ use borrow.Author.Needs.{needs}
 use Rattle.record_listing.proofs.list.Tie as tie
 use Rattle.record_listing.proofs.Lines.{list-short, list-placed, listing-long, listing-damaged, listing-record}
 use Rattle.record_listing.proofs.Spelling.{placed-before}
-use Rattle.record_listing.specs.Listing.{field, newline, linesOf, records, damaged, tooLong}
+use Rattle.record_listing.specs.Listing.{field, newline, linesIn, records, damaged, tooLong}
 use Rattle.record.specs.Answers.{accepted, refused, countedAnswer, entriesAnswer}
-use Rattle.record_bytes.specs.Reading.{readRecord}
 use Rattle.record_listing.proofs.list.Statement.{statement}
 
 returns : tie.Need-returns
@@ -23,7 +22,7 @@ returns-2 c =
     let o = now (c .before .before .before .before .before .before .before .before .before .args .out) in
     let p = c .before .before .put-text in
     list-placed s o (p .last .0) tooLong (p .result) (omega arith) (listing-long s (c .before .before .before .before .before .if2 .taken))
-        (p .ensures)
+    (p .ensures)
 
 returns-3 : tie.Need-returns-3
 returns-3 c =
@@ -31,13 +30,15 @@ returns-3 c =
     let o = now (c .before .before .before .before .before .before .before .before .before .before .before .before .args .out) in
     let p = c .before .before .put-text2 in
     let none : refused 7 ≡ entriesAnswer s = sym (ap countedAnswer (c .before .before .before .before .before .enum-told .given .1))
-        ∙ c .before .before .before .before .before .before .before .entries .ensures .0 in
+    ∙ c .before .before .before .before .before .before .before .entries .ensures .0 in
     list-placed s o (p .last .0) damaged (p .result) (omega arith) (listing-damaged s (omega arith) none) (p .ensures)
 
 put-lines-requires : tie.Need-put-lines-requires
-put-lines-requires c κs =
-    (ap accepted (c .before .wide4 .ensures) ∙ sym (ap countedAnswer (c .before .before .before .counted .given .1))
-        ∙ c .before .before .before .before .before .entries .ensures .0, omega arith)
+put-lines-requires c κs = (
+  ap accepted (c .before .wide4 .ensures) ∙ sym (ap countedAnswer (c .before .before .before .counted .given .1))
+      ∙ c .before .before .before .before .before .entries .ensures .0,
+  omega arith,
+)
 
 returns-4 : tie.Need-returns-4
 returns-4 c =
@@ -56,13 +57,13 @@ returns-4 c =
     let w = c2 .before .wide42 in
     let n = w .result in
     let whole : accepted n ≡ entriesAnswer s = ap accepted (w .ensures) ∙ sym (ap countedAnswer (k .counted .given .1))
-        ∙ e .entries .ensures .0 in
+    ∙ e .entries .ensures .0 in
     let all : length o ≤ length o = omega arith in
     let q2 = placed-before o (p1 .last .1 .1 .0) (p2 .last .0) (p2 .result) (p1 .result) (length o) (field n newline)
-    (linesOf (readRecord s)) all (p1 .ensures .0) (p2 .ensures .0) in
+    (linesIn s) all (p1 .ensures .0) (p2 .ensures .0) in
     let q3 = placed-before o (p2 .last .0) (p3 .last .0) (p3 .result) (p2 .result) (length o) records
-    (field n newline ++ linesOf (readRecord s)) all q2 (p3 .ensures) in
-    list-placed s o (p3 .last .0) (records ++ (field n newline ++ linesOf (readRecord s))) (p3 .result) (u .if1 .left)
+    (field n newline ++ linesIn s) all q2 (p3 .ensures) in
+    list-placed s o (p3 .last .0) (records ++ (field n newline ++ linesIn s)) (p3 .result) (u .if1 .left)
     (listing-record s n (t .if2 .left) whole) q3
 
 pub list-spec : {M : Type 1} → statement M

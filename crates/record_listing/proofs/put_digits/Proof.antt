@@ -29,9 +29,11 @@ sub-at c =
 loop-again : tie.Need-loop-again Inv-loop μ-loop
 loop-again c =
     let l = c .before .before .loop in
-    let a = c .before .before .before .before .args in
-    (spelling-turn (now (a .out)) (l .out) (a .end) (l .at) (l .rest) (a .n) (c .digit .result) (omega arith) (omega arith) (omega arith)
-        (c .digit .ensures) (l .inv .0), simp length-set (l .inv .1))
+    let a = c .before .before .before .before .args in (
+      spelling-turn (now (a .out)) (l .out) (a .end) (l .at) (l .rest) (a .n) (c .digit .result) (omega arith) (omega arith) (omega arith)
+          (c .digit .ensures) (l .inv .0),
+      simp length-set (l .inv .1),
+    )
 
 returns : tie.Need-returns Inv-loop μ-loop
 returns c =

@@ -21,8 +21,8 @@ same-length c =
     let d = set (set (now (a .out)) (a .end - 1) (a .after)) (a .end - 2) (c .before .before .before .before .digit .result) in
     let l : length d ≡ length (now (a .out)) = simp length-set in
     let k : length (c .before .before .put-digits .last .0) ≡ length d =
-        placed-length d (c .before .before .put-digits .last .0) (c .before .before .put-digits .result) (a .end - 2) _ (omega arith)
-        (c .before .before .put-digits .ensures .0) in
+    placed-length d (c .before .before .put-digits .last .0) (c .before .before .put-digits .result) (a .end - 2) _ (omega arith)
+    (c .before .before .put-digits .ensures .0) in
     omega arith
 
 returns : tie.Need-returns

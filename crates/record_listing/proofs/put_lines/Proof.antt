@@ -71,7 +71,7 @@ put-line-requires c κs =
     let sized = l .inv .0 .text .sized in
     let v = c .before .before .step .given .0 .0 in
     let size = found-size (now (a .bytes)) (l .end) v (l .inv .2)
-        (sym (c .before .before .before .before .entry-before .ensures) ∙ c .before .before .step .given .1) .0 in
+    (sym (c .before .before .before .before .entry-before .ensures) ∙ c .before .before .step .given .1) .0 in
     (omega arith, (omega (arith, l .inv .1), (omega (arith, l .inv .3), omega arith)))
 
 loop-less : tie.Need-loop-less Inv-loop μ-loop
@@ -86,14 +86,17 @@ loop-again c =
     let v = c .before .before .before .before .before .before .step .given .0 .0 in
     let p = c .before .before .before .put-line in
     let found = sym (c .before .before .before .before .before .before .before .before .entry-before .ensures)
-        ∙ c .before .before .before .before .before .before .step .given .1 in
+    ∙ c .before .before .before .before .before .before .step .given .1 in
     let start = found-size (now (a .bytes)) (l .end) v (l .inv .2) found .1 in
     let t = lining-turn (now (a .bytes)) (now (a .out)) (l .out) (p .last .0) (l .end) (l .left) (l .at) (p .result) (a .n) v (omega arith)
-        (l .inv .0) (p .ensures .0) (p .ensures .1) found in
+    (l .inv .0) (p .ensures .0) (p .ensures .1) found in
     let sized = l .inv .0 .text .sized in
-    let at-most : l .at ≤ length (l .out) = omega (arith, l .inv .1) in
-    (rw (c .wide4 .ensures) t, placed-length (l .out) (p .last .0) (p .result) (l .at) _ at-most (p .ensures .0) ∙ l .inv .1,
-        omega (arith, l .inv .2, c .wide4 .ensures), omega (arith, l .inv .3))
+    let at-most : l .at ≤ length (l .out) = omega (arith, l .inv .1) in (
+      rw (c .wide4 .ensures) t,
+      placed-length (l .out) (p .last .0) (p .result) (l .at) _ at-most (p .ensures .0) ∙ l .inv .1,
+      omega (arith, l .inv .2, c .wide4 .ensures),
+      omega (arith, l .inv .3),
+    )
 
 same-length-2 : tie.Need-same-length-2 Inv-loop μ-loop
 same-length-2 c = c .before .loop .inv .1
@@ -105,9 +108,10 @@ returns-2 c =
     let long = k .long in
     let short = k .short in
     let l = c .before .loop in
-    let room = l .inv .0 .room in
-    (lining-done (now (a .bytes)) (now (a .out)) (l .out) (l .end) (l .left) (l .at) (a .n) (omega arith) k (l .inv .0),
-        (omega arith, omega arith))
+    let room = l .inv .0 .room in (
+      lining-done (now (a .bytes)) (now (a .out)) (l .out) (l .end) (l .left) (l .at) (a .n) (omega arith) k (l .inv .0),
+      (omega arith, omega arith),
+    )
 
 pub put-lines-spec : {M : Type 1} → statement M
 put-lines-spec =

@@ -17,9 +17,13 @@ abbrev μ-loop : tie.MeasureT-loop
 
 loop-holds : tie.Need-loop-holds Inv-loop μ-loop
 loop-holds c =
-    let a = c .before .before .before .args in
-    (omega arith, omega arith, hash-rest (a .p) (a .n) (a .s .now) (length (a .s .now) / 4 * 4) (c .hash-of .result)
-        (c .hash-of .ensures .0), c .hash-of .ensures .1)
+    let a = c .before .before .before .args in (
+      omega arith,
+      omega arith,
+      hash-rest (a .p) (a .n) (a .s .now) (length (a .s .now) / 4 * 4) (c .hash-of .result)
+          (c .hash-of .ensures .0),
+      c .hash-of .ensures .1,
+    )
 
 cast-push-four : tie.Need-cast-push-four Inv-loop μ-loop
 cast-push-four c = omega (arith, c .shared-slice-known2 .given (c .before .before .loop .i - 4))

@@ -7,7 +7,7 @@ use Rattle.gf16.proofs.SemiOctet.inverse.Tie as tie
 returns : tie.Need-returns
 returns c =
     inverse-chain (c .before .before .before .before .before .args .a .0) (c .before .before .before .before .product .ensures)
-        (c .before .before .before .product2 .ensures)
+    (c .before .before .before .product2 .ensures)
     (c .before .before .product3 .ensures) (c .before .product4 .ensures) (c .product5 .ensures)
 
 pub inverse-spec : {M : Type 1} → statement M
