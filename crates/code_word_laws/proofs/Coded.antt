@@ -11,11 +11,11 @@ use lib.ListN.{length, getD, drop, replicate, length-append}
 use lib.Seq.{drop-at}
 use borrow.Author.Tests.{eq-eqb}
 use Rattle.gf16.specs.Field.{sum}
-use Rattle.gf16.proofs.Laws.{ring2, sum-zero, zero-sum}
+use Rattle.gf16.proofs.Laws.{sum-undone, sum-zero, zero-sum}
 use Rattle.code_word_laws.specs.Polynomial.{multiplied, rooted, generator}
 use Rattle.code_word_laws.specs.Word.{SemiOctets, apart}
 use Rattle.code_word_laws.specs.Make.{remainder, coded, CodeWord}
-use Rattle.code_word_laws.proofs.Distance.{unequal-le}
+use Rattle.code_word_laws.proofs.Distance.{unequal-le, apart-self}
 use Rattle.code_word_laws.proofs.Division.{unique, divided, quotient-by, rooted-monic, remainder-length, remainder-semi-octets, zeros-semi-octets}
 
 pub append-semi-octets : (xs ys : List ℕ) → SemiOctets xs → SemiOctets ys → SemiOctets (xs ++ ys)
@@ -29,9 +29,6 @@ front zero (r ∷ rs) message k e = absurd (omega arith)
 front (suc n) [] message k e = absurd (omega arith)
 front (suc n) (r ∷ rs) message zero e = sym (zero-sum r)
 front (suc n) (r ∷ rs) message (suc k) e = front n rs message k (omega arith)
-
-twice : (a b : ℕ) → sum (sum a b) b ≡ a
-twice a b = simp ring2
 
 pub coded-is : (d : ℕ) (message : List ℕ) → SemiOctets message → CodeWord d message (coded d message)
 unfolding coded generator
@@ -48,15 +45,11 @@ coded-is d message s =
       valid = record {
         quotient = quotient-by n g z;
         same = λ k.
-            sym (twice (getD (multiplied (quotient-by n g z) g) k 0) (getD (remainder n g z) k 0))
+            sym (sum-undone (getD (multiplied (quotient-by n g z) g) k 0) (getD (remainder n g z) k 0))
             ∙ ap (λ (v : ℕ). sum v (getD (remainder n g z) k 0)) (divided n g z (rooted-monic n) t k)
             ∙ sym (front n (remainder n g z) message k l);
       };
     }
-
-apart-self : (xs : List ℕ) → apart xs xs ≡ 0
-apart-self [] = refl
-apart-self (x ∷ xs) = let e : eqb x x ≡ true = eq-eqb x x refl in let r = apart-self xs in rw e (omega arith)
 
 -- words with the same data differ in front of them at most
 pub apart-front : (n : ℕ) (xs ys : List ℕ) → drop n xs ≡ drop n ys → apart xs ys ≤ n

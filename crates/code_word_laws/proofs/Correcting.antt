@@ -12,12 +12,12 @@ use borrow.Author.Tests.{eq-eqb}
 use Rattle.laws.specs.Decides.{Decides}
 use Rattle.gf16.specs.Field.{sum, power}
 use Rattle.gf16.proofs.Laws.{sum-lt, sum-assoc, sum-self, sum-zero, cancel}
-use Rattle.code_word_laws.specs.Polynomial.{value}
+use Rattle.code_word_laws.specs.Polynomial.{value, added}
 use Rattle.code_word_laws.specs.Word.{SemiOctets, Roots, apart, unequal, distance}
 use Rattle.code_word_laws.specs.Correct.{Near, WordCorrected}
 use Rattle.code_word_laws.specs.Packed.{nibble}
 use Rattle.code_word_laws.specs.Corrector.{Syndromes, Clear, Acceptable, weight, Explains, Recurs, Continues, back, Transformed, ErrorWord, takenOff}
-use Rattle.code_word_laws.proofs.Distance.{support, support-rising, support-few, sums, sums-length, sums-semi-octets, value-sums, value-total}
+use Rattle.code_word_laws.proofs.Distance.{support, support-rising, support-few, added-length, added-semi-octets, value-added, value-total, apart-self}
 use Rattle.code_word_laws.proofs.Division.{valid-roots, roots-valid, nearest}
 use Rattle.code_word_laws.proofs.Transform.{undone}
 use Rattle.code_word_laws.proofs.Locator.{Follows}
@@ -69,7 +69,8 @@ taken-off-twice [] e = refl
 taken-off-twice (c ∷ cs) e =
     ap₂ (λ (a : ℕ) (l : List ℕ). a ∷ l) (sum-assoc c (e % 16) (e % 16) ∙ ap (λ (x : ℕ). sum c x) (sum-self (e % 16)) ∙ sum-zero c) (taken-off-twice cs (e / 16))
 
-taken-off-is : (w cs : List ℕ) (e : ℕ) → length w ≡ length cs → ((k : ℕ) → k < length w → nibble k e ≡ getD (sums w cs) k 0) → takenOff w e ≡ cs
+taken-off-is : (w cs : List ℕ) (e : ℕ) → length w ≡ length cs → ((k : ℕ) → k < length w → nibble k e ≡ getD (added w cs) k 0) → takenOff w e ≡ cs
+unfolding added
 taken-off-is [] [] e l h = refl
 taken-off-is [] (c ∷ cs) e l h = absurd (omega arith)
 taken-off-is (a ∷ w) [] e l h = absurd (omega arith)
@@ -79,31 +80,27 @@ taken-off-is (a ∷ w) (c ∷ cs) e l h =
 
 -- ---- completeness
 
-few-sums : (xs ys : List ℕ) → weight (sums xs ys) ≤ apart xs ys
-few-sums xs ys = rw (sym (support-weight (sums xs ys) 0)) (support-few xs ys 0)
+few-added : (xs ys : List ℕ) → length xs ≡ length ys → weight (added xs ys) ≤ apart xs ys
+few-added xs ys l = rw (sym (support-weight (added xs ys) 0)) (support-few xs ys 0 l)
 
 module _ (t : ℕ) (w : List ℕ) (s e : ℕ) (to : t ≤ 3) (short : length w ≤ 15) (semi : SemiOctets w) (syndromes : Syndromes w s) where
-  explains : (cs : List ℕ) → length w ≡ length cs → SemiOctets cs → Roots (t + t + 1) cs → apart w cs ≤ t → Explains t s (sums w cs)
+  explains : (cs : List ℕ) → length w ≡ length cs → SemiOctets cs → Roots (t + t + 1) cs → apart w cs ≤ t → Explains t s (added w cs)
   explains cs l c r n =
       record {
-        short = omega (arith, sums-length w cs l);
-        semi-octets = sums-semi-octets w cs semi c;
-        few = omega (arith, few-sums w cs);
+        short = omega (arith, added-length w cs l);
+        semi-octets = added-semi-octets w cs semi c;
+        few = omega (arith, few-added w cs l);
         sums = λ j p q.
-            value-sums w cs (power 2 j) l
+            value-added w cs (power 2 j)
             ∙ ap (λ (x : ℕ). sum (value w (power 2 j)) x) (r j p (omega arith))
             ∙ sum-zero (value w (power 2 j))
             ∙ sym (syndromes j (omega arith));
       }
 
   pub complete : ErrorWord t s e → (cs : List ℕ) → length w ≡ length cs → SemiOctets cs → Roots (t + t + 1) cs → apart w cs ≤ t → takenOff w e ≡ cs
-  complete g cs l c r n = taken-off-is w cs e l (λ k b. g (sums w cs) (explains cs l c r n) k (omega arith))
+  complete g cs l c r n = taken-off-is w cs e l (λ k b. g (added w cs) (explains cs l c r n) k (omega arith))
 
 -- ---- what the corrector answers
-
-pub apart-self : (w : List ℕ) → apart w w ≡ 0
-apart-self [] = refl
-apart-self (c ∷ cs) = ap₂ (λ (b : Bool) (n : ℕ). unequal b + n) (eq-eqb c c refl) (apart-self cs)
 
 -- the syndromes are 0 exactly where the word has the roots
 clear-roots : (t : ℕ) (w : List ℕ) (s : ℕ) → t ≤ 3 → Syndromes w s → Clear (t + t) s → Roots (t + t + 1) w

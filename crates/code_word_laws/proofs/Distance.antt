@@ -13,7 +13,7 @@ use lib.ListN.{length, getD}
 use borrow.Author.Tests.{eqb-true, eq-eqb}
 use Rattle.gf16.specs.Field.{sum, product, power}
 use Rattle.gf16.proofs.Laws.{ring, sum-lt, sum-same, sum-self, sum-zero, zero-sum, one-product, product-by-zero, product-lt, power-one, power-product}
-use Rattle.code_word_laws.specs.Polynomial.{value}
+use Rattle.code_word_laws.specs.Polynomial.{value, added}
 use Rattle.code_word_laws.specs.Word.{SemiOctets, Roots, apart, unequal}
 use Rattle.code_word_laws.proofs.Places.{place, total, Rising, Zero, vanish}
 
@@ -22,12 +22,6 @@ abbrev pub support : ℕ → List ℕ → List ℕ
 support k [] = []
 support k (zero ∷ cs) = support (suc k) cs
 support k (suc c ∷ cs) = k ∷ support (suc k) cs
-
--- the sum of two words, place by place: their difference too
-abbrev pub sums : List ℕ → List ℕ → List ℕ
-sums [] ys = []
-sums (x ∷ xs) [] = []
-sums (x ∷ xs) (y ∷ ys) = sum x y ∷ sums xs ys
 
 pub value-lt : (cs : List ℕ) (x : ℕ) → SemiOctets cs → value cs x < 16
 value-lt [] x s = omega arith
@@ -93,15 +87,22 @@ differ-at x y n true e d = let z : 0 ≡ suc n = sym (sum-self y) ∙ ap (λ (a 
 differ-at x y n false e d = omega arith
 
 -- no more places in the sum's support than those in which the two differ
-pub support-few : (xs ys : List ℕ) (k : ℕ) → length (support k (sums xs ys)) ≤ apart xs ys
-support-few [] ys k = omega arith
-support-few (x ∷ xs) [] k = omega arith
-support-few (x ∷ xs) (y ∷ ys) k = go (sum x y) refl (support-few xs ys (suc k))
+-- the sum of two words of one length is their difference too
+pub support-few : (xs ys : List ℕ) (k : ℕ) → length xs ≡ length ys → length (support k (added xs ys)) ≤ apart xs ys
+unfolding added
+support-few [] [] k l = omega arith
+support-few [] (y ∷ ys) k l = absurd (omega arith)
+support-few (x ∷ xs) [] k l = absurd (omega arith)
+support-few (x ∷ xs) (y ∷ ys) k l = go (sum x y) refl (support-few xs ys (suc k) (omega arith))
   where
-    go : (n : ℕ) → sum x y ≡ n → length (support (suc k) (sums xs ys)) ≤ apart xs ys
-        → length (support k (n ∷ sums xs ys)) ≤ unequal (eqb x y) + apart xs ys
+    go : (n : ℕ) → sum x y ≡ n → length (support (suc k) (added xs ys)) ≤ apart xs ys
+        → length (support k (n ∷ added xs ys)) ≤ unequal (eqb x y) + apart xs ys
     go zero e h = omega arith
     go (suc n) e h = let d = differ-at x y n (eqb x y) refl e in omega arith
+
+pub apart-self : (xs : List ℕ) → apart xs xs ≡ 0
+apart-self [] = refl
+apart-self (x ∷ xs) = let e : eqb x x ≡ true = eq-eqb x x refl in let r = apart-self xs in rw e (omega arith)
 
 -- ---- equal words
 
@@ -114,44 +115,48 @@ all-zero [] k f s h z = tt
 all-zero (zero ∷ cs) k f s h z = (refl, all-zero cs (suc k) f (s .1) (shift f k 0 cs h) z)
 all-zero (suc c ∷ cs) k f s h z = let e : f k ≡ suc c = ap f (sym (add-zero k)) ∙ h 0 in let b = s .0 in let m = z .0 in absurd (omega arith)
 
-same : (xs ys : List ℕ) → length xs ≡ length ys → Zeros (sums xs ys) → xs ≡ ys
+same : (xs ys : List ℕ) → length xs ≡ length ys → Zeros (added xs ys) → xs ≡ ys
+unfolding added
 same [] [] e z = refl
 same [] (y ∷ ys) e z = absurd (omega arith)
 same (x ∷ xs) [] e z = absurd (omega arith)
 same (x ∷ xs) (y ∷ ys) e z = ap₂ (λ (a : ℕ) (l : List ℕ). a ∷ l) (sum-same x y (z .0)) (same xs ys (omega arith) (z .1))
 
-pub sums-semi-octets : (xs ys : List ℕ) → SemiOctets xs → SemiOctets ys → SemiOctets (sums xs ys)
-sums-semi-octets [] ys s t = tt
-sums-semi-octets (x ∷ xs) [] s t = tt
-sums-semi-octets (x ∷ xs) (y ∷ ys) s t = (sum-lt x y (s .0) (t .0), sums-semi-octets xs ys (s .1) (t .1))
+pub added-semi-octets : (xs ys : List ℕ) → SemiOctets xs → SemiOctets ys → SemiOctets (added xs ys)
+unfolding added
+added-semi-octets [] ys s t = t
+added-semi-octets (x ∷ xs) [] s t = s
+added-semi-octets (x ∷ xs) (y ∷ ys) s t = (sum-lt x y (s .0) (t .0), added-semi-octets xs ys (s .1) (t .1))
 
-pub sums-length : (xs ys : List ℕ) → length xs ≡ length ys → length (sums xs ys) ≡ length xs
-sums-length [] ys e = refl
-sums-length (x ∷ xs) [] e = absurd (omega arith)
-sums-length (x ∷ xs) (y ∷ ys) e = ap suc (sums-length xs ys (omega arith))
+pub added-length : (xs ys : List ℕ) → length xs ≡ length ys → length (added xs ys) ≡ length xs
+unfolding added
+added-length [] [] e = refl
+added-length [] (y ∷ ys) e = absurd (omega arith)
+added-length (x ∷ xs) [] e = absurd (omega arith)
+added-length (x ∷ xs) (y ∷ ys) e = ap suc (added-length xs ys (omega arith))
 
-shared : (a b c d x : ℕ) → sum (sum a b) (product x (sum c d)) ≡ sum (sum a (product x c)) (sum b (product x d))
-shared a b c d x = simp ring
+add-step : (a b v w x : ℕ) → sum (sum a b) (product x (sum v w)) ≡ sum (sum a (product x v)) (sum b (product x w))
+add-step a b v w x = simp ring
 
-pub value-sums : (xs ys : List ℕ) (x : ℕ) → length xs ≡ length ys → value (sums xs ys) x ≡ sum (value xs x) (value ys x)
-value-sums [] [] x e = sym (sum-zero 0)
-value-sums [] (b ∷ ys) x e = absurd (omega arith)
-value-sums (a ∷ xs) [] x e = absurd (omega arith)
-value-sums (a ∷ xs) (b ∷ ys) x e =
-    ap (λ (v : ℕ). sum (sum a b) (product x v)) (value-sums xs ys x (omega arith)) ∙ shared a b (value xs x) (value ys x) x
+pub value-added : (xs ys : List ℕ) (x : ℕ) → value (added xs ys) x ≡ sum (value xs x) (value ys x)
+unfolding added
+value-added [] ys x = sym (zero-sum (value ys x))
+value-added (a ∷ xs) [] x = sym (sum-zero (value (a ∷ xs) x))
+value-added (a ∷ xs) (b ∷ ys) x =
+    ap (λ (v : ℕ). sum (sum a b) (product x v)) (value-added xs ys x) ∙ add-step a b (value xs x) (value ys x) x
 
 -- the distance argument, for words of the same values at 2^1 .. 2^(d-1)
 pub unique-values : (d : ℕ) (xs ys : List ℕ) → length xs ≡ length ys → length xs ≤ 15 → SemiOctets xs → SemiOctets ys
     → ((j : ℕ) → 0 < j → j < d → value xs (power 2 j) ≡ value ys (power 2 j)) → apart xs ys < d → xs ≡ ys
 unique-values d xs ys e l s t p h =
-    let few = support-few xs ys 0 in
-    let semi = sums-semi-octets xs ys s t in
+    let few = support-few xs ys 0 e in
+    let semi = added-semi-octets xs ys s t in
     same xs ys e
-    (all-zero (sums xs ys) 0 (λ i. getD (sums xs ys) i 0) semi (λ i. ap (λ (x : ℕ). getD (sums xs ys) x 0) (zero-add i))
-    (vanish (support 0 (sums xs ys)) 0 (λ i. getD (sums xs ys) i 0) (support-rising (sums xs ys) 0 (omega (arith, sums-length xs ys e)))
+    (all-zero (added xs ys) 0 (λ i. getD (added xs ys) i 0) semi (λ i. ap (λ (x : ℕ). getD (added xs ys) x 0) (zero-add i))
+    (vanish (support 0 (added xs ys)) 0 (λ i. getD (added xs ys) i 0) (support-rising (added xs ys) 0 (omega (arith, added-length xs ys e)))
     (λ j a b.
-    sym (value-total (sums xs ys) j semi)
-    ∙ value-sums xs ys (power 2 j) e
+    sym (value-total (added xs ys) j semi)
+    ∙ value-added xs ys (power 2 j)
     ∙ ap (λ (v : ℕ). sum v (value ys (power 2 j))) (p j a (omega arith))
     ∙ sum-self (value ys (power 2 j)))))
 

@@ -18,7 +18,7 @@ use Rattle.code_word_laws.specs.Word.{SemiOctets, Valid, Roots, apart, d
 use Rattle.code_word_laws.specs.Make.{lessened, remainder}
 use Rattle.code_word_laws.specs.Correct.{Near}
 use Rattle.code_word_laws.proofs.Places.{linear}
-use Rattle.code_word_laws.proofs.Distance.{unequal-le, value-lt, unique-roots, triangle}
+use Rattle.code_word_laws.proofs.Distance.{unequal-le, value-lt, unique-roots, triangle, value-added}
 
 -- ---- values
 
@@ -29,16 +29,6 @@ pub value-scaled : (c : ℕ) (ds : List ℕ) (x : ℕ) → value (scaled c ds) x
 unfolding scaled
 value-scaled c [] x = sym (product-by-zero c)
 value-scaled c (d ∷ ds) x = ap (λ (v : ℕ). sum (product c d) (product x v)) (value-scaled c ds x) ∙ scale-step c d (value ds x) x
-
-add-step : (a b v w x : ℕ) → sum (sum a b) (product x (sum v w)) ≡ sum (sum a (product x v)) (sum b (product x w))
-add-step a b v w x = simp ring
-
-pub value-added : (ps qs : List ℕ) (x : ℕ) → value (added ps qs) x ≡ sum (value ps x) (value qs x)
-unfolding added
-value-added [] qs x = sym (zero-sum (value qs x))
-value-added (a ∷ ps) [] x = sym (sum-zero (value (a ∷ ps) x))
-value-added (a ∷ ps) (b ∷ qs) x =
-    ap (λ (v : ℕ). sum (sum a b) (product x v)) (value-added ps qs x) ∙ add-step a b (value ps x) (value qs x) x
 
 multiply-step : (c g v x : ℕ) → sum (product c g) (sum 0 (product x (product v g))) ≡ product (sum c (product x v)) g
 multiply-step c g v x = simp ring2

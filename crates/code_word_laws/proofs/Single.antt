@@ -19,7 +19,8 @@ use Rattle.code_word_laws.specs.Correct.{WordCorrected}
 use Rattle.code_word_laws.specs.Corrector.{Row, Syndromes, Clear, Tried}
 use Rattle.code_word_laws.proofs.Packed.{nibble-xor}
 use Rattle.code_word_laws.proofs.Turns.{changed}
-use Rattle.code_word_laws.proofs.Correcting.{apart-self, near-by, found-is}
+use Rattle.code_word_laws.proofs.Correcting.{near-by, found-is}
+use Rattle.code_word_laws.proofs.Distance.{apart-self}
 
 -- v added at place k
 abbrev changed-at : List ℕ → ℕ → ℕ → List ℕ

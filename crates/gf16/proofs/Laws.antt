@@ -71,6 +71,9 @@ sum-left a b c = sym (sum-assoc a b c) ∙ ap (λ (x : ℕ). sum x c) (sum-comm 
 pub cancel : (a b : ℕ) → sum a (sum a b) ≡ b
 cancel a b = sym (sum-assoc a a b) ∙ ap (λ (x : ℕ). sum x b) (sum-self a) ∙ zero-sum b
 
+pub sum-undone : (a b : ℕ) → sum (sum a b) b ≡ a
+sum-undone a b = sum-assoc a b b ∙ ap (λ (x : ℕ). sum a x) (sum-self b) ∙ sum-zero a
+
 -- two elements whose sum is 0 are one
 pub sum-same : (a b : ℕ) → sum a b ≡ 0 → a ≡ b
 sum-same a b e = sym (sum-zero a) ∙ ap (λ (x : ℕ). sum a x) (sym e) ∙ cancel a b

@@ -14,7 +14,7 @@ use Rattle.laws.specs.Tab.{tab, total, pick, Below}
 use Rattle.laws.proofs.Tab.{length-tab, getD-tab, tab-is, below-tab, total-same, total-front, total-turned, total-none}
 use Rattle.laws.proofs.Spread.{part, spread, spread-one}
 use Rattle.gf16.specs.Field.{sum}
-use Rattle.gf16.proofs.Laws.{sum-assoc, sum-self, sum-zero, sum-lt}
+use Rattle.gf16.proofs.Laws.{sum-undone, sum-lt}
 use Rattle.code_word_laws.specs.Word.{unequal, apart}
 use Rattle.slot_laws.specs.Sizes.{words, wordLength}
 use Rattle.slot_laws.specs.Semi.{Bytes, semi}
@@ -29,9 +29,6 @@ pub record AllWords (size : ℕ) (w : ℕ → List ℕ) : Type 0 where
   pub below : (i : ℕ) → i < words size → Below 16 (w i)
 
 -- what is added twice is gone
-unsum : (a c : ℕ) → sum (sum a c) c ≡ a
-unsum a c = sum-assoc a c c ∙ ap (λ (x : ℕ). sum a x) (sum-self c) ∙ sum-zero a
-
 -- ---- places
 
 pub word-lt : (size p : ℕ) → 40 ≤ size → wordOf size p < words size
@@ -89,7 +86,7 @@ module _ (size : ℕ) (g : ℕ → ℕ → ℕ) (from : 40 ≤ size) (small : (i
       (semi-pack (λ p. sum (getD (w (wordOf size p)) (numberIn size p) 0) (g (wordOf size p) (numberIn size p))) size (placeOf size i k)
       (slot-lt w a) (place-lt size i k from l m)
       ∙ ap₂ (λ (x y : ℕ). sum (getD (w x) y 0) (g x y)) (place-word size i k from l m) (place-number size i k from l m))
-      ∙ unsum (getD (w i) k 0) (g i k))
+      ∙ sum-undone (getD (w i) k 0) (g i k))
 
   -- a slot is made of its words
   pub slot-received : (slot : List ℕ) → Bytes size slot → slotFrom size g (received size g slot) ≡ slot
@@ -100,7 +97,7 @@ module _ (size : ℕ) (g : ℕ → ℕ → ℕ) (from : 40 ≤ size) (small : (i
       let i = wordOf size p in
       let k = numberIn size p in
       ap (λ (x : ℕ). sum x (g i k)) (getD-tab (λ k. sum (semi slot (placeOf size i k)) (g i k)) (wordLength size i) k (number-lt size p from l))
-      ∙ unsum (semi slot (placeOf size i k)) (g i k)
+      ∙ sum-undone (semi slot (placeOf size i k)) (g i k)
       ∙ ap (semi slot) (place-back size p l))
       ∙ pack-semi slot size b
 
@@ -127,7 +124,7 @@ shift-eqb a b c = go (eqb a b) refl
     go true e = eq-eqb (sum a c) (sum b c) (ap (λ (x : ℕ). sum x c) (eqb-true a b e))
     go false e =
         ne-eqb (sum a c) (sum b c)
-        (λ x. eqb-false a b e (sym (unsum a c) ∙ ap (λ (y : ℕ). sum y c) x ∙ unsum b c))
+        (λ x. eqb-false a b e (sym (sum-undone a c) ∙ ap (λ (y : ℕ). sum y c) x ∙ sum-undone b c))
 
 apart-tab : (f g : ℕ → ℕ) (n : ℕ) → apart (tab f n) (tab g n) ≡ total (λ k. unequal (eqb (f k) (g k))) n
 unfolding tab
