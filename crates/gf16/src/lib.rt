@@ -30,12 +30,14 @@ impl SemiOctet {
         a.0 % 16 == one.0
     }
 
+    // The field's sum: the coefficients' exclusive or.
     pub fn sum(a: SemiOctet, b: SemiOctet) -> SemiOctet
         ensures { λ r. ⌜ r .0 ≡ sum (a .0) (b .0) ⌝ }
     {
         SemiOctet(a.0 ^ b.0)
     }
 
+    // The field's product, reduced by x^4 + x + 1.
     pub fn product(a: SemiOctet, b: SemiOctet) -> SemiOctet
         ensures { λ r. ⌜ r .0 ≡ product (a .0) (b .0) ⌝ }
     {

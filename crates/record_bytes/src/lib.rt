@@ -191,6 +191,7 @@ pub fn tail(request: u32, count: u32, length: u32, n: u32) -> [u8; 8]
     ]
 }
 
+// Puts bytes into a buffer from a place on.
 pub fn copy_in(dst: &mut [u8], at: usize, src: &[u8])
     requires { ⌜ at + length (now src) ≤ length (now dst) ⌝ }
     ensures { λ _. ⌜ now (dst .exit) ≡ put (now (dst .entry)) at (now (src .entry)) ⌝ }

@@ -33,6 +33,7 @@ pub struct SilberlausAdded {
     pub used: u32,
 }
 
+// A record of no entries at the start of the buffer, or 6.
 pub fn new(buffer: &mut [u8]) -> u8
     ensures { λ r. ⌜ r ≡ newNumber (now (buffer .entry)) ⌝ }
     ensures { λ r. ⌜ now (buffer .exit) ≡ newBuffer (now (buffer .entry)) ⌝ }
@@ -40,6 +41,7 @@ pub fn new(buffer: &mut [u8]) -> u8
     record::new(buffer).number()
 }
 
+// The number of a record's entries, or 7.
 pub fn entries(bytes: &[u8]) -> SilberlausEntries
     ensures { λ r. ⌜ entriesGiven r ≡ entriesAnswer (now (bytes .entry)) ⌝ }
     ensures { λ r. ⌜ CountMeans (entriesGiven r) (now (bytes .entry)) ⌝ }
@@ -70,6 +72,7 @@ fn no_entry(number: u8) -> SilberlausEntry
     }
 }
 
+// An entry's fields, or 7, or 1 for a place that it has not.
 pub fn entry(bytes: &[u8], place: usize) -> SilberlausEntry
     ensures { λ r. ⌜ entryGiven r ≡ entryAnswer (now (bytes .entry)) place ⌝ }
 {
@@ -94,6 +97,7 @@ fn not_added(number: u8) -> SilberlausAdded
     SilberlausAdded { number, used: 0 }
 }
 
+// An entry added and the new used length, or 1, 7 or 6.
 pub fn add(
     buffer: &mut [u8],
     used: usize,
