@@ -9,10 +9,10 @@ use native.Mathlib.Omega.{arith}
 use lib.ListN.{getD, take}
 use lib.Seq.{length-take-le}
 use Rattle.laws.proofs.Tab.{below-take}
-use Rattle.slot_laws.specs.Sizes.{words, hash1, hash2, frameSize}
+use Rattle.slot_laws.specs.Sizes.{Settings, words, hash1, frameSize, dataSize}
 use Rattle.slot_laws.specs.Order.{requestSwapped, Data}
 use Rattle.slot_laws.specs.Slot.{slotWith}
-use Rattle.slot_protection.specs.Protect.{Settings, Lengths, Protects}
+use Rattle.slot_protection.specs.Protect.{Lengths, Protects}
 use Rattle.slot.specs.Unprotect.{Taken, Unprotects}
 use Rattle.slot.specs.Demand.{DemandThree}
 use Rattle.slot_laws.specs.Back.{rolled, requestIn, restIn, Matches, requestOf, frameOf}
@@ -27,7 +27,7 @@ use Rattle.slot_laws.proofs.ProtectSteps.{blanks}
 use Rattle.slot_repair.proofs.ReceiveSteps.{corrected-slot, count-changes}
 
 -- room for the data
-pub data-blank : (size mode e : ℕ) → e ≡ 2 * hash1 size + 2 * hash2 size mode + 2 * frameSize size mode → e ≤ 800 → Data size mode (take e blanks)
+pub data-blank : (size mode e : ℕ) → e ≡ dataSize size mode → e ≤ 800 → Data size mode (take e blanks)
 data-blank size mode e h l = record {
   long = length-take-le e blanks l ∙ h;
   below = below-take 16 e blanks (omega arith) (λ i. let z = zeros-at 800 i in omega arith);

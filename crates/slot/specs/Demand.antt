@@ -5,7 +5,8 @@ use mathlib.Core.Logic.{_↔_}
 use mathlib.Core.List.{List}
 use Prim.Native.Nat.{ℕ, _-_, _*_}
 use Rattle.slot_laws.specs.Changes.{changes, AtMost}
-use Rattle.slot_protection.specs.Protect.{Settings, Lengths, Protects}
+use Rattle.slot_laws.specs.Sizes.{Settings}
+use Rattle.slot_protection.specs.Protect.{Lengths, Protects}
 use Rattle.slot.specs.Unprotect.{Clean}
 
 -- protecting made `sent` of the frame and the request q; unprotecting was lent `slot`, and answered the number, the frame `new`, the request r and the count n
