@@ -28,15 +28,15 @@ mul-frame-5 : tie.Need-mul-frame-5 Inv-loop μ-loop
 mul-frame-5 c =
     let h = c .before .before .before in
     let a = h .before .args in
-    let b = h .before .pre .2 (2 * length (a .frame .now) - 1 - (2 * h .loop .j + 1)) in
+    let b = h .before .pre .below (2 * length (a .frame .now) - 1 - (2 * h .loop .j + 1)) in
     omega arith
 
 add-frame-2 : tie.Need-add-frame-2 Inv-loop μ-loop
 add-frame-2 c =
     let h = c .before .before .before in
     let a = h .before .args in
-    let b = h .before .pre .2 (2 * length (a .frame .now) - 1 - (2 * h .loop .j + 1)) in
-    let d = h .before .pre .2 (2 * length (a .frame .now) - 1 - 2 * h .loop .j) in
+    let b = h .before .pre .below (2 * length (a .frame .now) - 1 - (2 * h .loop .j + 1)) in
+    let d = h .before .pre .below (2 * length (a .frame .now) - 1 - 2 * h .loop .j) in
     omega arith
 
 loop-again : tie.Need-loop-again Inv-loop μ-loop
