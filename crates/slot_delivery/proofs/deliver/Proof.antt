@@ -40,7 +40,7 @@ returns-2 c =
     let r = c .before .before .roll in (
       m .ensures .holds (not-false (m .result) e),
       delivered-frame (a .size) (a .mode) (h .result) (a .message .now) (a .frame .now) (r .last .1 .0)
-      (s .pre .1) (h .ensures .is) (r .ensures),
+          (s .pre .1) (h .ensures .is) (r .ensures),
     )
 
 pub deliver-spec : {M : Type 1} → statement M

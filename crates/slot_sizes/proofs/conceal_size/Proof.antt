@@ -49,8 +49,7 @@ loop-again c =
     let d = h .before .distance in
     let e = h .before .before .before .word-count .ensures .0 in
     let l = c .word-length in
-    let w : l .result ≡ wordLength (a .size) (words (a .size) - 1 - h .loop .k) = rw e at (l .ensures .0) in
-    (
+    let w : l .result ≡ wordLength (a .size) (words (a .size) - 1 - h .loop .k) = rw e at (l .ensures .0) in (
       omega arith,
       omega arith,
       block-next (a .size) (a .mode) (h .loop .k) (l .result) (d .result) (h .loop .sum) (d .ensures .is) w (h .loop .inv .2),
