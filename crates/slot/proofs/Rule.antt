@@ -40,7 +40,8 @@ word-fits size mode slot r i l =
 pub word-semi-octets : (size mode : ℕ) (slot : List ℕ) → InRange size mode → (i : ℕ) → i < words size → SemiOctets (wordIn size mode slot i)
 word-semi-octets size mode slot r i l = semi-octets-of (wordIn size mode slot i) (words-in size mode slot r .below i l)
 
-pub corrected-only : (size mode : ℕ) (slot c e : List ℕ) → InRange size mode → Corrected size mode slot c → Corrected size mode slot e → c ≡ e
+pub corrected-only : (size mode : ℕ) (slot c e : List ℕ) → InRange size mode → Corrected size mode slot c → Corrected size mode slot e
+    → c ≡ e
 corrected-only size mode slot c e r a b =
     same-words size mode c e r (a .bytes) (b .bytes)
     (λ i l.

@@ -53,7 +53,8 @@ unfolding Matches restIn
 matches-told size mode q h message head rest d e k f =
     let n = length-drop h message in
     let t : take (length message - h) (drop h message) ≡ drop h message = take-all (length message - h) (drop h message) (omega arith) in
-    let l : length head ≡ h = ap (λ (x : List ℕ). length x) f ∙ length-heading size mode q (take (length message - h) (drop h message)) ∙ sym e in
+    let l : length head ≡ h = ap (λ (x : List ℕ). length x) f ∙ length-heading size mode q (take (length message - h) (drop h message))
+    ∙ sym e in
     let x : take h (head ++ rest) ≡ heading size mode (requestIn size message) (drop (headingSize size mode) message) =
     take-at head rest h l ∙ f ∙ ap₂ (heading size mode) k (t ∙ ap (λ (m : ℕ). drop m message) e) in
     let y : take h message ≡ take (headingSize size mode) message = ap (λ (m : ℕ). take m message) e in

@@ -26,11 +26,13 @@ use Rattle.slot_ordering.specs.Room.{TwoPlaces}
 unfoldable pub turned : List ℕ → ℕ → ℕ
 turned frame k = semi frame (2 * length frame - 1 - k)
 
-pub unrolled-is : (frame out : List ℕ) (k : ℕ) → length frame ≤ k → Filled (turned frame) (2 * length frame) (2 * k) out → out ≡ unrolled (length frame) frame
+pub unrolled-is : (frame out : List ℕ) (k : ℕ) → length frame ≤ k → Filled (turned frame) (2 * length frame) (2 * k) out
+    → out ≡ unrolled (length frame) frame
 unfolding unrolled turned
 unrolled-is frame out k h f = filled-last (turned frame) (2 * length frame) (2 * k) out f (omega arith)
 
-turned-even : (frame : List ℕ) (k : ℕ) → k < length frame → getD frame (length frame - 1 - k) 0 < 256 → getD frame (length frame - 1 - k) 0 / 16 ≡ turned frame (2 * k)
+turned-even : (frame : List ℕ) (k : ℕ) → k < length frame → getD frame (length frame - 1 - k) 0 < 256
+    → getD frame (length frame - 1 - k) 0 / 16 ≡ turned frame (2 * k)
 unfolding turned semi half
 turned-even frame k h l =
     let a : (2 * length frame - 1 - 2 * k) % 2 ≡ 1 = omega arith in
@@ -74,7 +76,8 @@ left-next v left i e =
     let p : 16 ^ (i + 1) ≡ 16 ^ i * 16 = ap (λ (x : ℕ). 16 ^ x) (add-one i) ∙ pow-suc 16 i in
     ap (λ (x : ℕ). x / 16) e ∙ div-div-eq-div-mul v (16 ^ i) 16 ∙ ap (λ (x : ℕ). v / x) (sym p)
 
-pub semis-next : (v left n i : ℕ) (out : List ℕ) → left ≡ v / 16 ^ i → i < n → Filled (digit v) n i out → Filled (digit v) n (i + 1) (set out i (left % 16))
+pub semis-next : (v left n i : ℕ) (out : List ℕ) → left ≡ v / 16 ^ i → i < n → Filled (digit v) n i out
+    → Filled (digit v) n (i + 1) (set out i (left % 16))
 unfolding digit
 semis-next v left n i out e h f = filled-next (digit v) n i out (left % 16) f h (ap (λ (x : ℕ). x % 16) e)
 
@@ -87,7 +90,8 @@ pub raised-other : (size q : ℕ) → (size ≡ 40 → ⊥) → q * 4194304 ≡ 
 raised-other size q n = rw (hash1-other size n)
 
 -- a list written in two parts, the front and the rest
-pub put-two : (e : ℕ) (front rest old : List ℕ) → length front ≡ e → putMid e (length (front ++ drop e old) - e) (front ++ drop e old) rest ≡ front ++ rest
+pub put-two : (e : ℕ) (front rest old : List ℕ) → length front ≡ e
+    → putMid e (length (front ++ drop e old) - e) (front ++ drop e old) rest ≡ front ++ rest
 put-two e front rest old h =
     let n = length-append front (drop e old) in
     let l : length (drop e old) ≤ length (front ++ drop e old) - e = omega arith in
@@ -143,7 +147,8 @@ rest-is n h out e =
 
 pub front-is : (size mode q h : ℕ) (out head last rest : List ℕ) → h ≡ headingSize size mode
     → length out ≡ dataSize size mode → head ≡ heading size mode q (take (length out - h) (drop h out))
-    → last ≡ take (length (take h out)) (drop 0 (head ++ rest)) → last ++ drop h out ≡ ordered size mode q (drop (headingSize size mode) out)
+    → last ≡ take (length (take h out)) (drop 0 (head ++ rest))
+    → last ++ drop h out ≡ ordered size mode q (drop (headingSize size mode) out)
 unfolding ordered
 front-is size mode q h out head last rest e l f g =
     let d = length-drop h out in
@@ -160,19 +165,23 @@ behind : (h : ℕ) (out last : List ℕ) → h ≤ length out → drop h (putMid
 behind h out last l =
     let d = length-drop h out in
     let z : drop (length out - h) (drop h out) ≡ [] = drop-of-length-le (drop h out) {i = length out - h} (omega arith) in
-    drop-at (take h out) (last ++ drop (length out - h) (drop h out)) h (length-take-le h out l) ∙ ap (λ (t : List ℕ). last ++ t) z ∙ append-nil last
+    drop-at (take h out) (last ++ drop (length out - h) (drop h out)) h (length-take-le h out l) ∙ ap (λ (t : List ℕ). last ++ t) z
+    ∙ append-nil last
 
-pub arranged : (size mode q h : ℕ) (frame out last front : List ℕ) → h ≡ headingSize size mode → h ≤ length out → length frame ≡ frameSize size mode
+pub arranged : (size mode q h : ℕ) (frame out last front : List ℕ) → h ≡ headingSize size mode → h ≤ length out
+    → length frame ≡ frameSize size mode
     → last ≡ unrolled (length frame) frame → front ≡ ordered size mode q (drop (headingSize size mode) (putMid h (length out - h) out last))
     → front ≡ ordered size mode q (unrolled (frameSize size mode) frame)
 arranged size mode q h frame out last front e l n u f =
     f ∙ ap (λ (m : ℕ). ordered size mode q (drop m (putMid h (length out - h) out last))) (sym e)
     ∙ ap (ordered size mode q) (behind h out last l ∙ u ∙ ap (λ (m : ℕ). unrolled m frame) n)
 
-pub data-arranged : (size mode q : ℕ) (frame front : List ℕ) → front ≡ ordered size mode q (unrolled (frameSize size mode) frame) → Data size mode front
+pub data-arranged : (size mode q : ℕ) (frame front : List ℕ) → front ≡ ordered size mode q (unrolled (frameSize size mode) frame)
+    → Data size mode front
 data-arranged size mode q frame front e = rw e (data-ordered size mode q frame)
 
-pub data-is : (size mode q : ℕ) (frame front new : List ℕ) → front ≡ ordered size mode q (unrolled (frameSize size mode) frame) → new ≡ requestSwapped size mode front
+pub data-is : (size mode q : ℕ) (frame front new : List ℕ) → front ≡ ordered size mode q (unrolled (frameSize size mode) frame)
+    → new ≡ requestSwapped size mode front
     → new ≡ dataOf size mode q frame
 unfolding dataOf
 data-is size mode q frame front new e f = f ∙ ap (requestSwapped size mode) e

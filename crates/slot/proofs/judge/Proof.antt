@@ -19,8 +19,9 @@ returns c =
     let s = c .before .before .before .before .before .before .before .before .before in
     let a = s .args in
     let m = c .before .before .before .before .correct-slot in
+    let b = c .before .before .before .before .before .before .before .before .shared-slice-known in
     let t : Taken (a .size) (a .mode) (a .slot .now) (a .frame .now) = record
-    { range = s .pre .range; lengths = s .pre .lengths; bytes = λ i. c .before .before .before .before .before .before .before .before .shared-slice-known .given i .fits } in
+    { range = s .pre .range; lengths = s .pre .lengths; bytes = λ i. b .given i .fits } in
     let y : SomeBeyond (a .size) (a .mode) (a .slot .now) = rw (c .enum-told .given .1) at (m .ensures) in
     record { taken = t; beyond = y; refused = record { kept = refl; no-request = refl; no-count = refl } }
 
@@ -65,8 +66,9 @@ returns-2 c =
     let x : MendedTo (a .size) (a .mode) (a .slot .now) (m .last .1 .1 .1 .0) (words (a .size)) (k .0 .0) = rw (k .1) at (m .ensures) in
     let z = h .swap-request in
     let o = z .last .1 .1 .0 in
+    let b = h .before .before .before .before .before .before .before .before .before .before .before .shared-slice-known in
     let t : Taken (a .size) (a .mode) (a .slot .now) (a .frame .now) = record
-    { range = s .pre .range; lengths = s .pre .lengths; bytes = λ i. h .before .before .before .before .before .before .before .before .before .before .before .shared-slice-known .given i .fits } in
+    { range = s .pre .range; lengths = s .pre .lengths; bytes = λ i. b .given i .fits } in
     let d = c .before .before .before .deliver in
     let n = d .last .1 .1 .1 .1 .0 in
     let y : IsDelivered (a .size) (a .mode) o (a .frame .now) n false = rw (not-true (d .result) (c .if1 .taken)) at (d .ensures) in
@@ -82,8 +84,9 @@ returns-3 c =
     let x : MendedTo (a .size) (a .mode) (a .slot .now) (m .last .1 .1 .1 .0) (words (a .size)) (k .0 .0) = rw (k .1) at (m .ensures) in
     let z = h .swap-request in
     let o = z .last .1 .1 .0 in
+    let b = h .before .before .before .before .before .before .before .before .before .before .before .shared-slice-known in
     let t : Taken (a .size) (a .mode) (a .slot .now) (a .frame .now) = record
-    { range = s .pre .range; lengths = s .pre .lengths; bytes = λ i. h .before .before .before .before .before .before .before .before .before .before .before .shared-slice-known .given i .fits } in
+    { range = s .pre .range; lengths = s .pre .lengths; bytes = λ i. b .given i .fits } in
     let d = c .before .before .before .deliver in
     let n = d .last .1 .1 .1 .1 .0 in
     let f = c .before .before .before .before .before .before .before .first-hash-size in

@@ -24,8 +24,9 @@ put-heading-requires c κs =
 
 slice-aggregate-copy-part : tie.Need-slice-aggregate-copy-part
 slice-aggregate-copy-part c =
+    let h = c .before .before .before .before .before .before .heading-size in
     let p = c .before .before .put-heading in
-    sym (length-front blank (p .last .1 .1 .1 .1 .0) (c .before .before .before .before .before .before .heading-size .result) (p .kept .1 .1 .1 .1 .0))
+    sym (length-front blank (p .last .1 .1 .1 .1 .0) (h .result) (p .kept .1 .1 .1 .1 .0))
 
 slice-aggregate-copy-part-2 : tie.Need-slice-aggregate-copy-part-2
 slice-aggregate-copy-part-2 c =

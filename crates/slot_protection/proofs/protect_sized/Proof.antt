@@ -53,20 +53,21 @@ write-slot-requires c κs =
 
 returns-3 : tie.Need-returns-3
 returns-3 c =
-    let s = c .before .before .before .before .before .before .before .before .before .before .before .before .before .before in
+    let b = c .before .before .before .before .before .before .before .before .before .before .before .before .before in
+    let s = b .before in
     let a = s .args in
     let n = c .before .before .before .before .before .before .before .before .before .before .before .frame-bytes in
-    let b = c .before .before .before .before .before .before .before .before .before in
+    let k = c .before .before .before .before .before .before .before .before .before in
     let e = c .before .before .before .before .before .before .before .before .data-size in
     let m = c .before .before .before .before .before .before .arrange in
     let w = c .before .before .write-slot in
     record {
       settings = s .pre;
       lengths = record {
-        frame-long = omega (arith, n .ensures .0, b .before .if1 .left);
-        slot-long = omega (arith, b .if2 .left);
+        frame-long = omega (arith, n .ensures .0, k .before .if1 .left);
+        slot-long = omega (arith, k .if2 .left);
       };
-      bytes = λ i. c .before .before .before .before .before .before .before .before .before .before .before .before .before .shared-slice-known .given i .fits;
+      bytes = λ i. b .shared-slice-known .given i .fits;
       made = slot-is (a .size) (a .mode) (a .request) (e .result) (a .frame .now) (m .last .1 .1 .1 .1 .0) (drop (e .result) blanks)
           (w .last .1 .1 .1 .0) (e .ensures .is) (m .ensures) (w .ensures);
     }
