@@ -59,16 +59,16 @@ module _ (size mode : ℕ) (slot old new message order : List ℕ) (count : ℕ)
 
   pub foreign-answer : IsDelivered size mode order old new false → Unprotects size mode slot old new (refusedWith 4)
   foreign-answer d =
-      rw (d .1)
+      rw (d .kept)
       (refuses size mode slot old (slotWith size mode message) taken
-      (corrected-slot size mode slot message count (taken .range) corrected) (rw hashes (d .0)))
+      (corrected-slot size mode slot message count (taken .range) corrected) (rw hashes (d .foreign)))
 
   pub accepted-answer : (q : ℕ) → q ≡ requestIn size order → IsDelivered size mode order old new true
       → Unprotects size mode slot old new (acceptedWith q count)
   accepted-answer q f d =
-      rw (frame-as (d .1), request-as q f, count-changes size mode slot message count (taken .range) corrected)
+      rw (frame-as (d .frame-is), request-as q f, count-changes size mode slot message count (taken .range) corrected)
       (accepts size mode slot old (slotWith size mode message) taken
-      (corrected-slot size mode slot message count (taken .range) corrected) (rw hashes (d .0)))
+      (corrected-slot size mode slot message count (taken .range) corrected) (rw hashes (d .matching)))
 
 -- demand 3 follows from the two contracts
 pub carried : (number size mode q : ℕ) (frame lent sent slot old new : List ℕ) (answer : Told) → Protects size mode q frame lent sent number

@@ -22,7 +22,16 @@ pub record FrameRoom (a frame : List ℕ) : Type 0 where
   pub most : length frame ≤ 400
   pub below : Below 16 a
 
--- the heading matches and the frame is written, or it does not and the frame buffer is as lent
+-- the heading matches, and the frame is written
+pub record IsWritten (size mode : ℕ) (message new : List ℕ) : Type 0 where
+  pub matching : Matches size mode message
+  pub frame-is : new ≡ rolled (frameSize size mode) (restIn size mode message)
+
+-- the heading does not match, and the frame buffer is as lent
+pub record IsKept (size mode : ℕ) (message old new : List ℕ) : Type 0 where
+  pub foreign : Matches size mode message → ⊥
+  pub kept : new ≡ old
+
 abbrev pub IsDelivered : ℕ → ℕ → List ℕ → List ℕ → List ℕ → Bool → Type 0
-IsDelivered size mode t old new true = Matches size mode t × (new ≡ rolled (frameSize size mode) (restIn size mode t))
-IsDelivered size mode t old new false = (Matches size mode t → ⊥) × (new ≡ old)
+IsDelivered size mode message old new true = IsWritten size mode message new
+IsDelivered size mode message old new false = IsKept size mode message old new

@@ -12,7 +12,7 @@ use Rattle.laws.proofs.Every.{at}
 use Rattle.laws.proofs.Tab.{total-next, total-none}
 use Rattle.code_word_laws.specs.Word.{distance}
 use Rattle.slot_laws.specs.Sizes.{InRange, words, wordLength, dataLength, concealWords, block, conceal, hash1, hash2, frameSize}
-use Rattle.slot_laws.proofs.Sizes.{length-low, length-high, overhead, conceal-fits}
+use Rattle.slot_laws.proofs.Sizes.{length-low, length-high, overhead, conceal-few, conceal-fits}
 
 pub word-count-is : (size r : ℕ) → size ≤ 400 → r ≡ (2 * size + 14) / 15 → (r ≡ words size) × (r ≤ 54)
 unfolding words
@@ -94,6 +94,9 @@ conceal-four size mode h k e =
 pub conceal-other : (size mode : ℕ) → (mode ≡ 3 → ⊥) → (mode ≡ 4 → ⊥) → concealWords size mode ≡ 0
 unfolding concealWords
 conceal-other size mode n m = rw (ne-eqb mode 3 n, ne-eqb mode 4 m) (pick-same (leb 80 size) 0)
+
+pub conceal-is : (size mode r : ℕ) → 40 ≤ size → concealWords size mode ≡ r → (r ≡ concealWords size mode) × (r ≤ words size)
+conceal-is size mode r g e = let f = conceal-few size mode g in (sym e, omega arith)
 
 -- ---- the block
 

@@ -52,6 +52,7 @@ pub fn second_hash_size(size: usize, mode: usize) -> usize
 pub fn conceal_count(size: usize, mode: usize) -> usize
     requires { ⌜ InRange size mode ⌝ }
     ensures { λ r. ⌜ r ≡ concealWords size mode ⌝ }
+    ensures { λ r. ⌜ r ≤ words size ⌝ }
 {
     if size < 80 {
         return 0;

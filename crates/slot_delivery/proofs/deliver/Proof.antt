@@ -14,7 +14,7 @@ use borrow.Author.Tests.{not-true, not-false}
 returns : tie.Need-returns
 returns c =
     let m = c .before .matches in
-    (m .ensures .fails (not-true (m .result) (c .if1 .taken)), refl)
+    record { foreign = m .ensures .fails (not-true (m .result) (c .if1 .taken)); kept = refl }
 
 roll-requires : tie.Need-roll-requires
 roll-requires c κs =
@@ -37,11 +37,12 @@ returns-2 c =
     let h = c .before .before .before .before .before .before .before .heading-size in
     let m = c .before .before .before .before .before .before .matches in
     let e = c .before .before .before .before .before .if1 .left in
-    let r = c .before .before .roll in (
-      m .ensures .holds (not-false (m .result) e),
-      delivered-frame (a .size) (a .mode) (h .result) (a .message .now) (a .frame .now) (r .last .1 .0)
-          (s .pre .1) (h .ensures .is) (r .ensures),
-    )
+    let r = c .before .before .roll in
+    record {
+      matching = m .ensures .holds (not-false (m .result) e);
+      frame-is = delivered-frame (a .size) (a .mode) (h .result) (a .message .now) (a .frame .now) (r .last .1 .0)
+          (s .pre .1) (h .ensures .is) (r .ensures);
+    }
 
 pub deliver-spec : {M : Type 1} → statement M
 deliver-spec =

@@ -2,8 +2,8 @@
 use Rattle.slot_ordering.proofs.OrderSteps.{heading-is}
 use lib.Seq.{length-take-le}
 use native.Mathlib.Omega.{arith}
-use Prim.Native.Nat.{_+_, _*_, ℕ}
-use mathlib.Core.Path.{sym, ap₂}
+use Prim.Native.Nat.{_+_, _*_}
+use mathlib.Core.Path.{sym}
 use borrow.Author.Needs.{needs}
 use Rattle.slot_ordering.proofs.put_heading.Statement.{statement}
 use Rattle.slot_ordering.proofs.put_heading.Tie as tie
@@ -22,9 +22,9 @@ returns c =
     let h = p .before .before .before .first-hash in
     let r = p .before .before .raised in
     heading-is (a .size) (a .mode) (a .request) (2 * s .first-hash-size .result) (a .a .now) (a .out .now)
-    (p .put-semis .last .1 .0) (m .put-semis2 .last .1 .0) _ _
+    (p .put-semis .last .1 .0) (m .put-semis2 .last .1 .0) (h .result + r .result) _
     (omega (arith, s .first-hash-size .ensures .0)) (s .before .before .before .pre .1 .room)
-    (ap₂ (λ (x y : ℕ). x + y) (h .ensures .0) (r .ensures .0)) (m .before .before .second-hash .ensures)
+    (omega (arith, h .ensures .0, r .ensures .0)) (m .before .before .second-hash .ensures)
     (p .put-semis .ensures) (m .put-semis2 .ensures)
 
 pub put-heading-spec : {M : Type 1} → statement M

@@ -1,6 +1,5 @@
 -- `slot_sizes::conceal_size` meets its contract. The invariant of its loop stands at the head. Assumes nothing.
 use Rattle.slot_sizes.proofs.SizeSteps.{block-none, block-next, block-last}
-use Rattle.slot_laws.proofs.Sizes.{conceal-few}
 use Rattle.slot_laws.specs.Sizes.{block, words, wordLength, concealWords}
 use native.Mathlib.Omega.{arith}
 use mathlib.Core.Path.{_≡_}
@@ -17,30 +16,6 @@ abbrev μ-loop : tie.MeasureT-loop
 
 loop-holds : tie.Need-loop-holds Inv-loop μ-loop
 loop-holds c = let a = c .before .before .before .args in (omega arith, omega arith, block-none (a .size) (a .mode))
-
-sub-word-length : tie.Need-sub-word-length Inv-loop μ-loop
-sub-word-length c =
-    let a = c .before .before .before .before .before .args in
-    let f = conceal-few (a .size) (a .mode) (omega arith) in
-    omega arith
-
-sub-word-length-2 : tie.Need-sub-word-length-2 Inv-loop μ-loop
-sub-word-length-2 c =
-    let a = c .before .before .before .before .before .args in
-    let f = conceal-few (a .size) (a .mode) (omega arith) in
-    omega arith
-
-word-length-requires : tie.Need-word-length-requires Inv-loop μ-loop
-word-length-requires c κs =
-    let a = c .before .before .before .before .before .args in
-    let f = conceal-few (a .size) (a .mode) (omega arith) in
-    omega arith
-
-add-sum : tie.Need-add-sum Inv-loop μ-loop
-add-sum c =
-    let a = c .before .before .before .before .before .before .args in
-    let f = conceal-few (a .size) (a .mode) (omega arith) in
-    omega arith
 
 loop-again : tie.Need-loop-again Inv-loop μ-loop
 loop-again c =
@@ -68,5 +43,5 @@ conceal-size-spec =
     tie.close
     (tie.spec
     Inv-loop μ-loop (λ c κs. search needs) (λ c κs. search needs) (λ c κs. search needs) (λ c. search needs)
-    loop-holds sub-word-length sub-word-length-2 word-length-requires (λ c. search needs) add-sum
-    (λ c. search needs) (λ c. search needs) loop-again returns)
+    loop-holds (λ c. search needs) (λ c. search needs) (λ c κs. search needs) (λ c. search needs)
+    (λ c. search needs) (λ c. search needs) (λ c. search needs) loop-again returns)
