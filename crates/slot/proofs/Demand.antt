@@ -117,14 +117,14 @@ module _ (size mode q : ℕ) (frame slot old : List ℕ) (taken : Taken size mod
   demand new answer u = record {
     repairs = λ few.
         let s = same-back new answer u few in
-        record { number-back = s .number-same; frame-back = s .frame-same; request-back = s .request-same; count-back = s .count-same };
+        record { answer-back = s .answer-same; frame-back = s .frame-same };
     clean = λ few. (
       λ c.
           let a = is-accepted (answer .number) size mode slot old new answer (c .0) u in
           rw (sym (unchanged (clean-valid new answer a (c .1)) few)) (changes-self size slot),
       λ e.
           let s = same-back new answer u (none-changed e) in
-          (s .number-same, s .count-same ∙ e),
+          (ap (λ (t : Told). t .number) (s .answer-same), ap (λ (t : Told). t .count) (s .answer-same) ∙ e),
     );
   }
 

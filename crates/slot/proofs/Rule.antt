@@ -1,6 +1,6 @@
 -- Document 01's rule for unprotecting leaves no choice (`verdict-only`), and the comparison of the hashes decides between 0 and 4
 -- (`accepts`, `refuses`). Assumes nothing.
-use mathlib.Core.Path.{_≡_, refl, sym, ap, _∙_}
+use mathlib.Core.Path.{_≡_, refl, sym, ap, ap₂, _∙_}
 use mathlib.Core.List.{List}
 use Prim.Native.Nat.{ℕ, zero, suc, _≤_, _<_}
 use native.Mathlib.Omega.{arith}
@@ -58,12 +58,18 @@ pub is-accepted : (number size mode : ℕ) (slot old new : List ℕ) (answer : T
     → Promised number size mode slot old new answer → IsAccepted size mode slot old new answer
 is-accepted number size mode slot old new answer e u = rw e at u
 
--- two answers are the same in every part
+-- two answers tell the same when every part is the same
+told-same : (a b : Told) → a .number ≡ b .number → a .request ≡ b .request → a .count ≡ b .count → a ≡ b
+told-same a b e f g =
+    ap₂ (λ (k q : ℕ). told k q (a .count)) e f ∙ ap (told (b .number) (b .request)) g
+  where
+    told : ℕ → ℕ → ℕ → Told
+    told k q n = record { number = k; request = q; count = n }
+
+-- two calls answer the same, and leave the same frame
 pub record SameAnswer (new new' : List ℕ) (a b : Told) : Type 0 where
-  pub number-same : a .number ≡ b .number
+  pub answer-same : a ≡ b
   pub frame-same : new ≡ new'
-  pub request-same : a .request ≡ b .request
-  pub count-same : a .count ≡ b .count
 
 accepted-foreign : (size mode : ℕ) (slot old new new' : List ℕ) (a b : Told)
     → IsAccepted size mode slot old new a → IsForeign size mode slot old new' b → ⊥
@@ -74,10 +80,8 @@ accepted-foreign size mode slot old new new' a b u v =
 module _ (size mode : ℕ) (slot old new new' : List ℕ) (a b : Told) where
   refused-same : a .number ≡ b .number → Refused old new a → Refused old new' b → SameAnswer new new' a b
   refused-same e u v = record {
-    number-same = e;
+    answer-same = u .nothing-else ∙ ap refusedWith e ∙ sym (v .nothing-else);
     frame-same = u .kept ∙ sym (v .kept);
-    request-same = u .no-request ∙ sym (v .no-request);
-    count-same = u .no-count ∙ sym (v .no-count);
   }
 
   accepted-same : a .number ≡ b .number → IsAccepted size mode slot old new a → IsAccepted size mode slot old new' b
@@ -88,11 +92,10 @@ module _ (size mode : ℕ) (slot old new new' : List ℕ) (a b : Told) where
       let p = b .request in
       let e = corrected-only size mode slot (slotOf size mode q new) (slotOf size mode p new') r (u .corrected) (v .corrected) in
       record {
-        number-same = f;
+        answer-same = told-same a b f
+            (sym (request-slot size mode q new r (u .sent)) ∙ ap (requestFrom size mode) e ∙ request-slot size mode p new' r (v .sent))
+            (u .counted ∙ ap (changes size slot) e ∙ sym (v .counted));
         frame-same = sym (frame-slot size mode q new r (u .sent)) ∙ ap (frameFrom size mode) e ∙ frame-slot size mode p new' r (v .sent);
-        request-same =
-            sym (request-slot size mode q new r (u .sent)) ∙ ap (requestFrom size mode) e ∙ request-slot size mode p new' r (v .sent);
-        count-same = u .counted ∙ ap (changes size slot) e ∙ sym (v .counted);
       }
 
   only : (k l : ℕ) → a .number ≡ k → b .number ≡ l
@@ -158,5 +161,5 @@ refuses size mode slot old c t a n = record {
   slot-is = c;
   corrected = a;
   foreign = λ r frame s e. n (rw e at (matches-slot size mode r frame (t .range) s));
-  refused = record { kept = refl; no-request = refl; no-count = refl };
+  refused = record { kept = refl; nothing-else = refl };
 }

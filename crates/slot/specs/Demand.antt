@@ -7,14 +7,12 @@ use Prim.Native.Nat.{ℕ, _-_, _*_}
 use Rattle.slot_laws.specs.Changes.{changes, AtMost}
 use Rattle.slot_laws.specs.Sizes.{Settings}
 use Rattle.slot_protection.specs.Protect.{Lengths, Protects}
-use Rattle.slot.specs.Unprotect.{Told, Clean}
+use Rattle.slot.specs.Unprotect.{Told, acceptedWith, Clean}
 
--- the sender's frame and request come back, and the count is that of all changed places
+-- the sender's request and frame come back, and the count is that of all changed places
 pub record ComesBack (size q : ℕ) (frame sent slot new : List ℕ) (answer : Told) : Type 0 where
-  pub number-back : answer .number ≡ 0
+  pub answer-back : answer ≡ acceptedWith q (changes size slot sent)
   pub frame-back : new ≡ frame
-  pub request-back : answer .request ≡ q
-  pub count-back : answer .count ≡ changes size slot sent
 
 -- protecting made `sent` of the frame and the request q; unprotecting was lent `slot`, left the frame `new` and answered
 pub record DemandThree (size mode q : ℕ) (frame sent slot new : List ℕ) (answer : Told) : Type 0 where

@@ -51,8 +51,7 @@ pub record IsAccepted (size mode : ℕ) (slot old new : List ℕ) (answer : Told
 -- a refusal: every other field is zero, and the frame buffer is as lent
 pub record Refused (old new : List ℕ) (answer : Told) : Type 0 where
   pub kept : new ≡ old
-  pub no-request : answer .request ≡ 0
-  pub no-count : answer .count ≡ 0
+  pub nothing-else : answer ≡ refusedWith (answer .number)
 
 -- a setting is out of range
 pub record BadSetting (size mode : ℕ) (old new : List ℕ) (answer : Told) : Type 0 where

@@ -23,7 +23,7 @@ returns c =
     let t : Taken (a .size) (a .mode) (a .slot .now) (a .frame .now) = record
     { range = s .pre .range; lengths = s .pre .lengths; bytes = λ i. b .given i .fits } in
     let y : SomeBeyond (a .size) (a .mode) (a .slot .now) = rw (c .enum-told .given .1) at (m .ensures) in
-    record { taken = t; beyond = y; refused = record { kept = refl; no-request = refl; no-count = refl } }
+    record { taken = t; beyond = y; refused = record { kept = refl; nothing-else = refl } }
 
 swap-request-requires : tie.Need-swap-request-requires
 swap-request-requires c κs =
