@@ -2,6 +2,7 @@
 ghost use Rattle.slot_laws.specs.Sizes.{IsFrameSize};
 ghost use Rattle.slot_protection.specs.Protect.{Protects};
 ghost use Rattle.slot.specs.Unprotect.{Recordable, Unprotects};
+ghost use Rattle.silberlaus_slots.specs.Told.{toldOf};
 use silberlaus_slots::SilberlausUnprotected;
 
 #[no_mangle]
@@ -31,8 +32,8 @@ pub extern "C" fn silberlaus_unprotect(
     received: &[u8],
     frame: &mut [u8],
 ) -> SilberlausUnprotected
-    ensures { λ r. ⌜ Unprotects size mode (now (received .entry)) (now (frame .entry)) (now (frame .exit)) (r .number) (r .request) (r .«semi_octets») ⌝ }
-    ensures { λ r. ⌜ Recordable (r .number) (r .request) (r .«semi_octets») (now (frame .exit)) ⌝ }
+    ensures { λ r. ⌜ Unprotects size mode (now (received .entry)) (now (frame .entry)) (now (frame .exit)) (toldOf r) ⌝ }
+    ensures { λ r. ⌜ Recordable (toldOf r) (now (frame .exit)) ⌝ }
 {
     silberlaus_slots::unprotect(size, mode, received, frame)
 }

@@ -3,6 +3,7 @@
 ghost use mathlib.Core.Path.{_≡_};
 ghost use Rattle.slot_protection.specs.Protect.{Protects};
 ghost use Rattle.slot.specs.Unprotect.{Recordable, Unprotects};
+ghost use Rattle.silberlaus_slots.specs.Told.{toldOf};
 use slot::Reception;
 
 // C's silberlaus_unprotected.
@@ -31,8 +32,8 @@ fn refused(number: u8) -> SilberlausUnprotected
 }
 
 pub fn unprotect(size: usize, mode: u32, received: &[u8], frame: &mut [u8]) -> SilberlausUnprotected
-    ensures { λ r. ⌜ Unprotects size mode (now (received .entry)) (now (frame .entry)) (now (frame .exit)) (r .number) (r .request) (r .«semi_octets») ⌝ }
-    ensures { λ r. ⌜ Recordable (r .number) (r .request) (r .«semi_octets») (now (frame .exit)) ⌝ }
+    ensures { λ r. ⌜ Unprotects size mode (now (received .entry)) (now (frame .entry)) (now (frame .exit)) (toldOf r) ⌝ }
+    ensures { λ r. ⌜ Recordable (toldOf r) (now (frame .exit)) ⌝ }
 {
     match slot::unprotect(size, mode, received, frame) {
         Reception::Accepted(q, n) => SilberlausUnprotected {

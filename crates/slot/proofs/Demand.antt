@@ -18,12 +18,12 @@ use Rattle.slot_laws.specs.Slot.{Sent, slotOf, wordIn}
 use Rattle.slot_laws.specs.Changes.{changed, changes, changesIn, AtMost}
 use Rattle.slot_protection.specs.Protect.{Lengths, Protects}
 use Rattle.slot_laws.specs.Corrected.{Corrected}
-use Rattle.slot.specs.Unprotect.{Taken, IsAccepted, Unprotects}
+use Rattle.slot.specs.Unprotect.{Told, acceptedWith, Taken, IsAccepted, Promised, Unprotects}
 use Rattle.slot.specs.Demand.{DemandThree}
 use Rattle.slot_laws.proofs.Semi.{semi-same}
 use Rattle.slot_laws.proofs.Places.{changes-words, changes-word}
 use Rattle.slot_laws.proofs.Slot.{words-in, AllValid, bytes-slot-of, valid-slot}
-use Rattle.slot.proofs.Rule.{same-words, word-fits, word-semi-octets, verdict-only}
+use Rattle.slot.proofs.Rule.{is-accepted, same-words, word-fits, word-semi-octets, SameAnswer, verdict-only}
 
 -- ---- changed places
 
@@ -68,7 +68,7 @@ module _ (size mode q : ℕ) (frame slot old : List ℕ) (taken : Taken size mod
       }
 
   accepted : AtMost (mode - 1) size slot (slotOf size mode q frame)
-      → Unprotects size mode slot old frame 0 q (changes size slot (slotOf size mode q frame))
+      → Unprotects size mode slot old frame (acceptedWith q (changes size slot (slotOf size mode q frame)))
   accepted few = record { taken = taken; sent = sent; corrected = repaired few; counted = refl }
 
   -- nothing changed is at most m - 1
@@ -98,46 +98,55 @@ module _ (size mode q : ℕ) (frame slot old : List ℕ) (taken : Taken size mod
       (let c = word-changes size mode slot made r i l in let f = few i l in let m = r .mode-from in omega arith))
 
   -- a slot that is called clean is of valid words
-  clean-valid : (new : List ℕ) (p n : ℕ) → IsAccepted size mode slot old new p n → n ≡ 0 → AllValid size mode slot
-  clean-valid new p n a z =
+  clean-valid : (new : List ℕ) (answer : Told) → IsAccepted size mode slot old new answer → answer .count ≡ 0 → AllValid size mode slot
+  clean-valid new answer a z =
       let r = taken .range in
-      let e = no-changes size slot (slotOf size mode p new) slot-bytes (bytes-slot-of size mode p new r) (sym (a .counted) ∙ z) in
-      rw e (valid-slot size mode p new r)
+      let q = answer .request in
+      let e = no-changes size slot (slotOf size mode q new) slot-bytes (bytes-slot-of size mode q new r) (sym (a .counted) ∙ z) in
+      rw e (valid-slot size mode q new r)
 
-  demand : (new : List ℕ) (number p n : ℕ) → Unprotects size mode slot old new number p n
-      → DemandThree size mode q frame (slotOf size mode q frame) slot new number p n
-  demand new number p n u = record {
+  -- with at most m - 1 changes in each word, the answer is what was sent
+  same-back : (new : List ℕ) (answer : Told) → Unprotects size mode slot old new answer
+      → AtMost (mode - 1) size slot (slotOf size mode q frame)
+      → SameAnswer new frame answer (acceptedWith q (changes size slot (slotOf size mode q frame)))
+  same-back new answer u few =
+      verdict-only size mode slot old new frame answer (acceptedWith q (changes size slot (slotOf size mode q frame))) u (accepted few)
+
+  demand : (new : List ℕ) (answer : Told) → Unprotects size mode slot old new answer
+      → DemandThree size mode q frame (slotOf size mode q frame) slot new answer
+  demand new answer u = record {
     repairs = λ few.
-        let s = verdict-only size mode slot old new frame number p n 0 q (changes size slot (slotOf size mode q frame)) u (accepted few) in
-        (s .number-same, s .frame-same, s .request-same, s .count-same);
+        let s = same-back new answer u few in
+        record { answer-back = s .answer-same; frame-back = s .frame-same };
     clean = λ few. (
       λ c.
-          let a : IsAccepted size mode slot old new p n = rw (c .0) at u in
-          rw (sym (unchanged (clean-valid new p n a (c .1)) few)) (changes-self size slot),
+          let a = is-accepted (answer .number) size mode slot old new answer (c .0) u in
+          rw (sym (unchanged (clean-valid new answer a (c .1)) few)) (changes-self size slot),
       λ e.
-          let s = verdict-only size mode slot old new frame number p n 0 q (changes size slot (slotOf size mode q frame)) u (accepted (none-changed e)) in
-          (s .number-same, s .count-same ∙ e),
+          let s = same-back new answer u (none-changed e) in
+          (ap (λ (t : Told). t .number) (s .answer-same), ap (λ (t : Told). t .count) (s .answer-same) ∙ e),
     );
   }
 
 -- whatever the answer, the slot that was lent is a list of bytes
-lent-bytes : (size mode : ℕ) (slot old new : List ℕ) (number r n : ℕ) → InRange size mode → Lengths size mode old slot
-    → Unprotects size mode slot old new number r n → Below 256 slot
-lent-bytes size mode slot old new zero r n i l u = u .taken .bytes
-lent-bytes size mode slot old new (suc zero) r n i l u = absurd (u .unfit i)
-lent-bytes size mode slot old new (suc (suc zero)) r n i l u = absurd (u .unfit l)
-lent-bytes size mode slot old new (suc (suc (suc zero))) r n i l u = u .taken .bytes
-lent-bytes size mode slot old new (suc (suc (suc (suc zero)))) r n i l u = u .taken .bytes
-lent-bytes size mode slot old new (suc (suc (suc (suc (suc m))))) r n i l u = absurd u
+lent-bytes : (number size mode : ℕ) (slot old new : List ℕ) (answer : Told) → InRange size mode → Lengths size mode old slot
+    → Promised number size mode slot old new answer → Below 256 slot
+lent-bytes zero size mode slot old new answer i l u = u .taken .bytes
+lent-bytes (suc zero) size mode slot old new answer i l u = absurd (u .unfit i)
+lent-bytes (suc (suc zero)) size mode slot old new answer i l u = absurd (u .unfit l)
+lent-bytes (suc (suc (suc zero))) size mode slot old new answer i l u = u .taken .bytes
+lent-bytes (suc (suc (suc (suc zero)))) size mode slot old new answer i l u = u .taken .bytes
+lent-bytes (suc (suc (suc (suc (suc m))))) size mode slot old new answer i l u = absurd u
 
 -- demand 3: for every slot that protecting made, and every slot of that size that unprotecting is lent with a frame buffer of its length
-pub demand-three : (size mode q : ℕ) (frame lent sent slot old new : List ℕ) (number r n : ℕ)
+pub demand-three : (size mode q : ℕ) (frame lent sent slot old new : List ℕ) (answer : Told)
     → Protects size mode q frame lent sent 0
-    → Lengths size mode old slot → Unprotects size mode slot old new number r n
-    → DemandThree size mode q frame sent slot new number r n
-demand-three size mode q frame lent sent slot old new number r n p l u =
+    → Lengths size mode old slot → Unprotects size mode slot old new answer
+    → DemandThree size mode q frame sent slot new answer
+demand-three size mode q frame lent sent slot old new answer p l u =
     let i = p .settings .range in
-    let t : Taken size mode slot old = record { range = i; lengths = l; bytes = lent-bytes size mode slot old new number r n i l u } in
+    let t : Taken size mode slot old = record
+    { range = i; lengths = l; bytes = lent-bytes (answer .number) size mode slot old new answer i l u } in
     let s : Sent size mode q frame = record
     { request = p .settings .request; frame-bytes = record { long = p .lengths .frame-long; below = p .bytes } } in
-    rw (p .made) (demand size mode q frame slot old t s new number r n u)
+    rw (p .made) (demand size mode q frame slot old t s new answer u)

@@ -1,4 +1,5 @@
 -- What unprotecting answers (Unprotect), and demand 3 (Demand), over Annex A.1's encoder in specs/ of `slot_laws` and what protecting
--- answers, in specs/ of `slot_protection`.
+-- answers, in specs/ of `slot_protection`; Inner is no part of what is right of a slot.
 pub mod Unprotect
 pub mod Demand
+pub mod Inner

@@ -13,6 +13,28 @@ use Rattle.slot.specs.declared.Reception.{Reception}
 use Rattle.slot.specs.declared.Reception.the-variants.{Accepted, Setting, Length, Beyond, Foreign}
 use Rattle.slot_laws.specs.Corrected.{Corrected, SomeBeyond}
 
+-- what an answer tells beside the frame: document 01's number, the request and the count of changed semi-octets
+pub record Told : Type 0 where
+  pub number : ℕ
+  pub request : ℕ
+  pub count : ℕ
+
+-- an accepted slot's answer
+abbrev pub acceptedWith : ℕ → ℕ → Told
+acceptedWith q n = record { number = 0; request = q; count = n }
+
+-- a refusal: its number, and zero in every other field
+abbrev pub refusedWith : ℕ → Told
+refusedWith number = record { number = number; request = 0; count = 0 }
+
+-- 0: accepted; 1: a setting is out of range; 2: a buffer hasn't its length; 3: a word beyond repair; 4: no frame and request make it
+abbrev pub toldOf : Reception → Told
+toldOf (Accepted q n) = acceptedWith q n
+toldOf Setting = refusedWith 1
+toldOf Length = refusedWith 2
+toldOf Beyond = refusedWith 3
+toldOf Foreign = refusedWith 4
+
 -- a call that gets neither 1 nor 2
 pub record Taken (size mode : ℕ) (slot old : List ℕ) : Type 0 where
   pub range : InRange size mode
@@ -20,80 +42,65 @@ pub record Taken (size mode : ℕ) (slot old : List ℕ) : Type 0 where
   pub bytes : Below 256 slot
 
 -- the corrected slot is what protecting makes of this frame and request; the count is that of the semi-octets in which the two slots differ
-pub record IsAccepted (size mode : ℕ) (slot old new : List ℕ) (q n : ℕ) : Type 0 where
+pub record IsAccepted (size mode : ℕ) (slot old new : List ℕ) (answer : Told) : Type 0 where
   pub taken : Taken size mode slot old
-  pub sent : Sent size mode q new
-  pub corrected : Corrected size mode slot (slotOf size mode q new)
-  pub counted : n ≡ changes size slot (slotOf size mode q new)
+  pub sent : Sent size mode (answer .request) new
+  pub corrected : Corrected size mode slot (slotOf size mode (answer .request) new)
+  pub counted : answer .count ≡ changes size slot (slotOf size mode (answer .request) new)
 
 -- a refusal: every other field is zero, and the frame buffer is as lent
-pub record Refused (old new : List ℕ) (q n : ℕ) : Type 0 where
+pub record Refused (old new : List ℕ) (answer : Told) : Type 0 where
   pub kept : new ≡ old
-  pub no-request : q ≡ 0
-  pub no-count : n ≡ 0
+  pub nothing-else : answer ≡ refusedWith (answer .number)
 
 -- a setting is out of range
-pub record BadSetting (size mode : ℕ) (old new : List ℕ) (q n : ℕ) : Type 0 where
+pub record BadSetting (size mode : ℕ) (old new : List ℕ) (answer : Told) : Type 0 where
   pub unfit : InRange size mode → ⊥
-  pub refused : Refused old new q n
+  pub refused : Refused old new answer
 
 -- the settings are in range, and a buffer hasn't its length
-pub record BadLength (size mode : ℕ) (slot old new : List ℕ) (q n : ℕ) : Type 0 where
+pub record BadLength (size mode : ℕ) (slot old new : List ℕ) (answer : Told) : Type 0 where
   pub range : InRange size mode
   pub unfit : Lengths size mode old slot → ⊥
-  pub refused : Refused old new q n
+  pub refused : Refused old new answer
 
-pub record IsBeyond (size mode : ℕ) (slot old new : List ℕ) (q n : ℕ) : Type 0 where
+pub record IsBeyond (size mode : ℕ) (slot old new : List ℕ) (answer : Told) : Type 0 where
   pub taken : Taken size mode slot old
   pub beyond : SomeBeyond size mode slot
-  pub refused : Refused old new q n
+  pub refused : Refused old new answer
 
 -- every word can be corrected, and the corrected slot is not what protecting makes of any frame and request
-pub record IsForeign (size mode : ℕ) (slot old new : List ℕ) (q n : ℕ) : Type 0 where
+pub record IsForeign (size mode : ℕ) (slot old new : List ℕ) (answer : Told) : Type 0 where
   pub taken : Taken size mode slot old
   pub slot-is : List ℕ
   pub corrected : Corrected size mode slot slot-is
   pub foreign : (r : ℕ) (frame : List ℕ) → Sent size mode r frame → slotOf size mode r frame ≡ slot-is → ⊥
-  pub refused : Refused old new q n
+  pub refused : Refused old new answer
 
--- 0: accepted; 1: a setting is out of range; 2: a buffer hasn't its length; 3: a word beyond repair; 4: no frame and request make it
-abbrev pub numberOf : Reception → ℕ
-numberOf (Accepted q n) = 0
-numberOf Setting = 1
-numberOf Length = 2
-numberOf Beyond = 3
-numberOf Foreign = 4
+-- what an answer with this number promises
+abbrev pub Promised : ℕ → ℕ → ℕ → List ℕ → List ℕ → List ℕ → Told → Type 0
+Promised zero size mode slot old new answer = IsAccepted size mode slot old new answer
+Promised (suc zero) size mode slot old new answer = BadSetting size mode old new answer
+Promised (suc (suc zero)) size mode slot old new answer = BadLength size mode slot old new answer
+Promised (suc (suc (suc zero))) size mode slot old new answer = IsBeyond size mode slot old new answer
+Promised (suc (suc (suc (suc zero)))) size mode slot old new answer = IsForeign size mode slot old new answer
+Promised (suc (suc (suc (suc (suc m))))) size mode slot old new answer = ⊥
 
--- the request; 0 on a refusal
-abbrev pub requestOf : Reception → ℕ
-requestOf (Accepted q n) = q
-requestOf Setting = 0
-requestOf Length = 0
-requestOf Beyond = 0
-requestOf Foreign = 0
+-- the promise: the slot, the frame buffer lent, the one left, and the answer
+abbrev pub Unprotects : ℕ → ℕ → List ℕ → List ℕ → List ℕ → Told → Type 0
+Unprotects size mode slot old new answer = Promised (answer .number) size mode slot old new answer
 
--- the count of changed semi-octets; 0 on a refusal
-abbrev pub countOf : Reception → ℕ
-countOf (Accepted q n) = n
-countOf Setting = 0
-countOf Length = 0
-countOf Beyond = 0
-countOf Foreign = 0
+-- what a record can hold: the request, a count of at most 54 words x 3, and the shortest and the longest frame
+pub record InRecord (answer : Told) (new : List ℕ) : Type 0 where
+  pub request-to : answer .request ≤ 3
+  pub count-to : answer .count ≤ 162
+  pub frame-from : 20 ≤ length new
+  pub frame-to : length new ≤ 343
 
--- the promise: the slot, the frame buffer lent, the one left, the number, the request and the count
-abbrev pub Unprotects : ℕ → ℕ → List ℕ → List ℕ → List ℕ → ℕ → ℕ → ℕ → Type 0
-Unprotects size mode slot old new zero q n = IsAccepted size mode slot old new q n
-Unprotects size mode slot old new (suc zero) q n = BadSetting size mode old new q n
-Unprotects size mode slot old new (suc (suc zero)) q n = BadLength size mode slot old new q n
-Unprotects size mode slot old new (suc (suc (suc zero))) q n = IsBeyond size mode slot old new q n
-Unprotects size mode slot old new (suc (suc (suc (suc zero)))) q n = IsForeign size mode slot old new q n
-Unprotects size mode slot old new (suc (suc (suc (suc (suc m))))) q n = ⊥
-
--- what unprotecting accepts a record can hold: the request, a count of at most 54 words x 3, and the shortest and the longest frame
-abbrev pub Recordable : ℕ → ℕ → ℕ → List ℕ → Type 0
-Recordable zero q n new = (q ≤ 3) × (n ≤ 162) × (20 ≤ length new) × (length new ≤ 343)
-Recordable (suc number) q n new = Unit {0}
+-- what unprotecting accepts a record can hold
+abbrev pub Recordable : Told → List ℕ → Type 0
+Recordable answer new = answer .number ≡ 0 → InRecord answer new
 
 -- accepted with count 0
-abbrev pub Clean : ℕ → ℕ → Type 0
-Clean number count = (number ≡ 0) × (count ≡ 0)
+abbrev pub Clean : Told → Type 0
+Clean answer = (answer .number ≡ 0) × (answer .count ≡ 0)

@@ -3,10 +3,9 @@
 // refuses with 1 or 2; `unprotect` answers by document 01's rule, which leaves no choice, and writes the frame on 0 alone; `carry` is
 // demand 3 of the two.
 ghost use mathlib.Core.Path.{_≡_};
-ghost use lib.ListN.{length};
-ghost use Rattle.slot_laws.specs.Sizes.{InRange, frameSize};
-ghost use Rattle.slot_laws.specs.Order.{Data};
-ghost use Rattle.slot.specs.Unprotect as unprotecting;
+ghost use Rattle.slot_laws.specs.Sizes.{InRange};
+ghost use Rattle.slot.specs.Unprotect.{toldOf, Unprotects, Recordable};
+ghost use Rattle.slot.specs.Inner.{Judgeable};
 ghost use Rattle.slot.specs.Demand.{Sends, Carried};
 pub use slot_protection::Protection;
 pub use slot_protection::protect;
@@ -25,7 +24,7 @@ pub enum Reception {
 impl Reception {
     // Document 01's number.
     pub fn number(self) -> u8
-        ensures { λ r. ⌜ r ≡ unprotecting.numberOf self ⌝ }
+        ensures { λ r. ⌜ r ≡ toldOf self .number ⌝ }
     {
         match self {
             Reception::Accepted(_, _) => 0,
@@ -39,8 +38,8 @@ impl Reception {
 
 // What was received, by document 01's rule, the mode told.
 pub fn unprotect(size: usize, mode: u32, slot: &[u8], frame: &mut [u8]) -> Reception
-    ensures { λ r. ⌜ unprotecting.Unprotects size mode (now (slot .entry)) (now (frame .entry)) (now (frame .exit)) (unprotecting.numberOf r) (unprotecting.requestOf r) (unprotecting.countOf r) ⌝ }
-    ensures { λ r. ⌜ unprotecting.Recordable (unprotecting.numberOf r) (unprotecting.requestOf r) (unprotecting.countOf r) (now (frame .exit)) ⌝ }
+    ensures { λ r. ⌜ Unprotects size mode (now (slot .entry)) (now (frame .entry)) (now (frame .exit)) (toldOf r) ⌝ }
+    ensures { λ r. ⌜ Recordable (toldOf r) (now (frame .exit)) ⌝ }
 {
     match size {
         40..=400 => match mode {
@@ -53,26 +52,23 @@ pub fn unprotect(size: usize, mode: u32, slot: &[u8], frame: &mut [u8]) -> Recep
 
 fn unprotect_sized(size: usize, mode: usize, slot: &[u8], frame: &mut [u8]) -> Reception
     requires { ⌜ InRange size mode ⌝ }
-    ensures { λ r. ⌜ unprotecting.Unprotects size mode (now (slot .entry)) (now (frame .entry)) (now (frame .exit)) (unprotecting.numberOf r) (unprotecting.requestOf r) (unprotecting.countOf r) ⌝ }
+    ensures { λ r. ⌜ Unprotects size mode (now (slot .entry)) (now (frame .entry)) (now (frame .exit)) (toldOf r) ⌝ }
 {
-    let n = slot_sizes::frame_bytes(size, mode);
-    if frame.len() != n {
+    if frame.len() != slot_sizes::frame_bytes(size, mode) {
         return Reception::Length;
     }
     if slot.len() != size {
         return Reception::Length;
     }
-    let e = 2 * slot_sizes::first_hash_size(size)
-        + 2 * slot_sizes::second_hash_size(size, mode)
-        + 2 * n;
+    let e = slot_sizes::data_size(size, mode);
     let mut message = [0u8; 800];
     judge(size, mode, slot, &mut message[..e], frame)
 }
 
 // Every word corrected, then the heading compared and the frame written; message is room for the data semi-octets.
 fn judge(size: usize, mode: usize, slot: &[u8], message: &mut [u8], frame: &mut [u8]) -> Reception
-    requires { ⌜ (InRange size mode) × (length (now slot) ≡ size) × (Data size mode (now message)) × (length (now frame) ≡ frameSize size mode) ⌝ }
-    ensures { λ r. ⌜ unprotecting.Unprotects size mode (now (slot .entry)) (now (frame .entry)) (now (frame .exit)) (unprotecting.numberOf r) (unprotecting.requestOf r) (unprotecting.countOf r) ⌝ }
+    requires { ⌜ Judgeable size mode (now slot) (now message) (now frame) ⌝ }
+    ensures { λ r. ⌜ Unprotects size mode (now (slot .entry)) (now (frame .entry)) (now (frame .exit)) (toldOf r) ⌝ }
 {
     let Outcome::Repaired(count) = slot_repair::correct_slot(size, mode, slot, message) else {
         return Reception::Beyond;
@@ -97,8 +93,9 @@ pub fn carry(
     out: &mut [u8],
 ) -> Reception
     ensures { λ r. ⌜ Sends size mode request (now (frame .entry)) (now (sent .entry)) (now (sent .exit)) ⌝ }
-    ensures { λ r. ⌜ unprotecting.Unprotects size mode (now (slot .entry)) (now (out .entry)) (now (out .exit)) (unprotecting.numberOf r) (unprotecting.requestOf r) (unprotecting.countOf r) ⌝ }
-    ensures { λ r. ⌜ Carried size mode request (now (frame .entry)) (now (sent .entry)) (now (sent .exit)) (now (slot .entry)) (now (out .entry)) (now (out .exit)) (unprotecting.numberOf r) (unprotecting.requestOf r) (unprotecting.countOf r) ⌝ }
+    ensures { λ r. ⌜ Unprotects size mode (now (slot .entry)) (now (out .entry)) (now (out .exit)) (toldOf r) ⌝ }
+    ensures { λ r. ⌜ Carried size mode request (now (frame .entry)) (now (sent .entry)) (now (sent .exit))
+        (now (slot .entry)) (now (out .entry)) (now (out .exit)) (toldOf r) ⌝ }
 {
     protect(size, mode, request, frame, sent);
     unprotect(size, mode, slot, out)

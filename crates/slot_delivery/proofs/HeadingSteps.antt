@@ -12,7 +12,7 @@ use lib.Seq.{take-all, take-at}
 use borrow.Author.Tests.{eqb-true, eqb-false}
 use Rattle.laws.specs.Decides.{Decides}
 use Rattle.laws.proofs.Fill.{Filled}
-use Rattle.slot_laws.specs.Sizes.{hash1, hash2, frameSize}
+use Rattle.slot_laws.specs.Sizes.{frameSize, headingSize}
 use Rattle.slot_laws.specs.Order.{heading, Data}
 use Rattle.slot_laws.specs.Back.{rolled, requestIn, restIn, Matches}
 use Rattle.slot_laws.proofs.Order.{length-heading}
@@ -27,7 +27,8 @@ rolled-is a n k frame h f = pack-is (λ p. getD a (2 * n - 1 - p) 0) n k frame h
 
 -- ---- two rows compared
 
-pub same-next : (a b : List ℕ) (i : ℕ) → ((k : ℕ) → k < i → getD a k 0 ≡ getD b k 0) → getD a i 0 ≡ getD b i 0 → (k : ℕ) → k < i + 1 → getD a k 0 ≡ getD b k 0
+pub same-next : (a b : List ℕ) (i : ℕ) → ((k : ℕ) → k < i → getD a k 0 ≡ getD b k 0) → getD a i 0 ≡ getD b i 0
+    → (k : ℕ) → k < i + 1 → getD a k 0 ≡ getD b k 0
 same-next a b i h e k l = go (eqb k i) refl
   where
     go : (t : Bool) → eqb k i ≡ t → getD a k 0 ≡ getD b k 0
@@ -44,20 +45,23 @@ decides-as : {P Q : Type 0} {r : Bool} → (P → Q) → (Q → P) → Decides P
 decides-as f g d = record { holds = λ e. f (d .holds e); fails = λ e q. d .fails e (g q) }
 
 -- the heading made anew, compared with the one that was sent
-pub matches-told : (size mode q h : ℕ) (message head rest : List ℕ) {r : Bool} → Data size mode message → h ≡ 2 * hash1 size + 2 * hash2 size mode → q ≡ requestIn size message
-    → head ≡ heading size mode q (take (length message - h) (drop h message)) → Decides (take h (head ++ rest) ≡ take h message) r → Decides (Matches size mode message) r
+pub matches-told : (size mode q h : ℕ) (message head rest : List ℕ) {r : Bool} → Data size mode message
+    → h ≡ headingSize size mode → q ≡ requestIn size message
+    → head ≡ heading size mode q (take (length message - h) (drop h message))
+    → Decides (take h (head ++ rest) ≡ take h message) r → Decides (Matches size mode message) r
 unfolding Matches restIn
 matches-told size mode q h message head rest d e k f =
     let n = length-drop h message in
     let t : take (length message - h) (drop h message) ≡ drop h message = take-all (length message - h) (drop h message) (omega arith) in
-    let l : length head ≡ h = ap (λ (x : List ℕ). length x) f ∙ length-heading size mode q (take (length message - h) (drop h message)) ∙ sym e in
-    let x : take h (head ++ rest) ≡ heading size mode (requestIn size message) (drop (2 * hash1 size + 2 * hash2 size mode) message) =
+    let l : length head ≡ h = ap (λ (x : List ℕ). length x) f ∙ length-heading size mode q (take (length message - h) (drop h message))
+    ∙ sym e in
+    let x : take h (head ++ rest) ≡ heading size mode (requestIn size message) (drop (headingSize size mode) message) =
     take-at head rest h l ∙ f ∙ ap₂ (heading size mode) k (t ∙ ap (λ (m : ℕ). drop m message) e) in
-    let y : take h message ≡ take (2 * hash1 size + 2 * hash2 size mode) message = ap (λ (m : ℕ). take m message) e in
+    let y : take h message ≡ take (headingSize size mode) message = ap (λ (m : ℕ). take m message) e in
     decides-as (λ p. sym x ∙ p ∙ y) (λ p. x ∙ p ∙ sym y)
 
 -- the frame as the code rolls it
-pub delivered-frame : (size mode h : ℕ) (order old new : List ℕ) → length old ≡ frameSize size mode → h ≡ 2 * hash1 size + 2 * hash2 size mode
+pub delivered-frame : (size mode h : ℕ) (order old new : List ℕ) → length old ≡ frameSize size mode → h ≡ headingSize size mode
     → new ≡ rolled (length old) (take (length order - h) (drop h order)) → new ≡ rolled (frameSize size mode) (restIn size mode order)
 unfolding restIn
 delivered-frame size mode h order old new l k g =

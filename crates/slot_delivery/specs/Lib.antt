@@ -1,2 +1,2 @@
--- What the functions of this crate promise one another and those over them: no part of what is right of a slot.
+-- What the functions of this crate ask and promise one another and those over them: no part of what is right of a slot.
 pub mod Inner

@@ -5,7 +5,8 @@ use mathlib.Core.Bool.{Bool, true, false}
 use mathlib.Core.List.{List, [], _∷_}
 use Prim.Native.Nat.{ℕ, zero, suc, _+_, _*_, _/_, _^_, _≤_, _<_}
 use native.Mathlib.Omega.{arith}
-use native.Mathlib.Nat.{two-pow-succ, add-zero, zero-mul, one-mul, mul-comm, mul-assoc, div-add-mod', mod-lt, div-lt-iff-lt-mul, le-div-iff-mul-le}
+use native.Mathlib.Nat.{two-pow-succ, add-zero, zero-mul, one-mul, mul-comm, mul-assoc, div-add-mod', mod-lt}
+use native.Mathlib.Nat.{div-lt-iff-lt-mul, le-div-iff-mul-le}
 use lib.Bits.{bitXor, xor-shifted, xor-block, xor-lt, xor-shr, xor-zero-l}
 use lib.Pow.{pow-pos}
 use lib.Dec.{ltb}
@@ -34,7 +35,8 @@ sum-scale a b k =
     let z : 0 < 2 ^ k = pow-pos k in
     let e = xor-block k a b 0 0 z z in
     let x : bitXor 0 0 ≡ 0 = xor-zero-l 0 in
-    let l : bitXor (a * 2 ^ k) (b * 2 ^ k) ≡ bitXor (a * 2 ^ k + 0) (b * 2 ^ k + 0) = ap₂ bitXor (sym (add-zero (a * 2 ^ k))) (sym (add-zero (b * 2 ^ k))) in
+    let l : bitXor (a * 2 ^ k) (b * 2 ^ k) ≡ bitXor (a * 2 ^ k + 0) (b * 2 ^ k + 0) =
+    ap₂ bitXor (sym (add-zero (a * 2 ^ k))) (sym (add-zero (b * 2 ^ k))) in
     l ∙ e ∙ ap (λ (y : ℕ). bitXor a b * 2 ^ k + y) x ∙ add-zero (bitXor a b * 2 ^ k)
 
 pub sum-double : (a b : ℕ) → sum (2 * a) (2 * b) ≡ 2 * sum a b
@@ -95,7 +97,8 @@ bits-up b t n h =
     let m : t * 2 ^ 1 * 2 ^ n ≡ 2 * (t * 2 ^ n) = ap (λ (x : ℕ). x * 2 ^ n) (mul-comm t 2) ∙ mul-assoc 2 t (2 ^ n) in
     ap (λ (x : ℕ). x * 2 ^ n) (sym (e ∙ k)) ∙ sym (sum-scale (t * 2 ^ 1) b n) ∙ ap (λ (x : ℕ). sum x (b * 2 ^ n)) m
 
-pushed-divides : (p n b r t : ℕ) → Degree p n → b < 2 → r < 2 ^ n → Divides p (r + t * 2 ^ n) → Divides p (pushed p n b r + (b + 2 * t) * 2 ^ n)
+pushed-divides : (p n b r t : ℕ) → Degree p n → b < 2 → r < 2 ^ n → Divides p (r + t * 2 ^ n)
+    → Divides p (pushed p n b r + (b + 2 * t) * 2 ^ n)
 unfolding multiple pushed
 pushed-divides p n b r t d h l q =
     let v : ℕ = sum (2 * r) (b * 2 ^ n) in

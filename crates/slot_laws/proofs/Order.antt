@@ -13,9 +13,10 @@ use lib.Seq.{getD-set-same, getD-set-other, set-set, set-comm, set-getD, take-at
 use Rattle.laws.specs.Tab.{pick, Below}
 use Rattle.laws.proofs.Tab.{below-append, below-drop}
 use Rattle.code_word_laws.specs.Word.{distance}
-use Rattle.slot_laws.specs.Sizes.{InRange, wordLength, hash1, hash2, frameSize}
+use Rattle.slot_laws.specs.Sizes.{InRange, wordLength, hash1, hash2, frameSize, headingSize}
 use Rattle.slot_laws.specs.Hash.{Bits, bitsOf, Degree, hash, powers, poly14, poly16, poly22}
-use Rattle.slot_laws.specs.Order.{unrolled, partN, firstHash, secondHash, semis, heading, ordered, swapped, requestSwapped, dataOf, Data}
+use Rattle.slot_laws.specs.Order.{unrolled, partN, firstHash, secondHash, semis, heading, ordered, swapped, requestSwapped}
+use Rattle.slot_laws.specs.Order.{dataOf, Data}
 use Rattle.slot_laws.specs.Slot.{Sent}
 use Rattle.slot_laws.specs.Back.{rolled, requestIn, restIn, Matches, requestOf, frameOf}
 use Rattle.slot_laws.proofs.Sizes.{hash1-low, swap-apart, swap-in}
@@ -48,7 +49,8 @@ first-lt size mode q a = go (eqb size 40)
     bits : Bits (q % 2 ∷ q / 2 % 2 ∷ bitsOf (partN size mode a))
     bits = (omega arith, (omega arith, bits-of (partN size mode a)))
 
-    go : (b : Bool) → hash (pick b poly14 poly22) (8 * pick b 2 3 - 2) (q % 2 ∷ q / 2 % 2 ∷ bitsOf (partN size mode a)) < 2 ^ (8 * pick b 2 3 - 2)
+    go : (b : Bool)
+        → hash (pick b poly14 poly22) (8 * pick b 2 3 - 2) (q % 2 ∷ q / 2 % 2 ∷ bitsOf (partN size mode a)) < 2 ^ (8 * pick b 2 3 - 2)
     go true = hash-lt poly14 14 (q % 2 ∷ q / 2 % 2 ∷ bitsOf (partN size mode a)) degree14 bits
     go false = hash-lt poly22 22 (q % 2 ∷ q / 2 % 2 ∷ bitsOf (partN size mode a)) degree22 bits
 
@@ -125,7 +127,8 @@ data-request-swapped size mode s d = record {
 }
 
 -- the swap undone (A.32 to A.36)
-pub request-swapped-twice : (size mode : ℕ) (s : List ℕ) → InRange size mode → Data size mode s → requestSwapped size mode (requestSwapped size mode s) ≡ s
+pub request-swapped-twice : (size mode : ℕ) (s : List ℕ) → InRange size mode → Data size mode s
+    → requestSwapped size mode (requestSwapped size mode s) ≡ s
 unfolding requestSwapped
 request-swapped-twice size mode s r d =
     let a = swap-apart size mode r in
@@ -135,25 +138,29 @@ request-swapped-twice size mode s r d =
 
 -- ---- the order
 
-pub length-heading : (size mode q : ℕ) (a : List ℕ) → length (heading size mode q a) ≡ 2 * hash1 size + 2 * hash2 size mode
+pub length-heading : (size mode q : ℕ) (a : List ℕ) → length (heading size mode q a) ≡ headingSize size mode
 unfolding heading
 length-heading size mode q a =
-    length-append (semis (2 * hash1 size) (firstHash size mode q a + q * 2 ^ (8 * hash1 size - 2))) (semis (2 * hash2 size mode) (secondHash size mode a))
+    length-append (semis (2 * hash1 size) (firstHash size mode q a + q * 2 ^ (8 * hash1 size - 2)))
+    (semis (2 * hash2 size mode) (secondHash size mode a))
     ∙ ap₂ (λ (x y : ℕ). x + y) (length-semis (2 * hash1 size) (firstHash size mode q a + q * 2 ^ (8 * hash1 size - 2)))
     (length-semis (2 * hash2 size mode) (secondHash size mode a))
 
 pub below-heading : (size mode q : ℕ) (a : List ℕ) → Below 16 (heading size mode q a)
 unfolding heading
 below-heading size mode q a =
-    below-append 16 (semis (2 * hash1 size) (firstHash size mode q a + q * 2 ^ (8 * hash1 size - 2))) (semis (2 * hash2 size mode) (secondHash size mode a))
-    (below-semis (2 * hash1 size) (firstHash size mode q a + q * 2 ^ (8 * hash1 size - 2))) (below-semis (2 * hash2 size mode) (secondHash size mode a))
+    below-append 16 (semis (2 * hash1 size) (firstHash size mode q a + q * 2 ^ (8 * hash1 size - 2)))
+    (semis (2 * hash2 size mode) (secondHash size mode a))
+    (below-semis (2 * hash1 size) (firstHash size mode q a + q * 2 ^ (8 * hash1 size - 2)))
+    (below-semis (2 * hash2 size mode) (secondHash size mode a))
 
 pub data-ordered : (size mode q : ℕ) (frame : List ℕ) → Data size mode (ordered size mode q (unrolled (frameSize size mode) frame))
 unfolding ordered
 data-ordered size mode q frame = record {
   long =
       length-append (heading size mode q (unrolled (frameSize size mode) frame)) (unrolled (frameSize size mode) frame)
-      ∙ ap₂ (λ (x y : ℕ). x + y) (length-heading size mode q (unrolled (frameSize size mode) frame)) (length-unrolled (frameSize size mode) frame);
+      ∙ ap₂ (λ (x y : ℕ). x + y) (length-heading size mode q (unrolled (frameSize size mode) frame))
+      (length-unrolled (frameSize size mode) frame);
   below =
       below-append 16 (heading size mode q (unrolled (frameSize size mode) frame)) (unrolled (frameSize size mode) frame)
       (below-heading size mode q (unrolled (frameSize size mode) frame)) (below-unrolled (frameSize size mode) frame);
@@ -161,11 +168,13 @@ data-ordered size mode q frame = record {
 
 pub data-of : (size mode q : ℕ) (frame : List ℕ) → Data size mode (dataOf size mode q frame)
 unfolding dataOf
-data-of size mode q frame = data-request-swapped size mode (ordered size mode q (unrolled (frameSize size mode) frame)) (data-ordered size mode q frame)
+data-of size mode q frame =
+    data-request-swapped size mode (ordered size mode q (unrolled (frameSize size mode) frame)) (data-ordered size mode q frame)
 
 -- ---- the way back, of data in order
 
-request-at : (size v q : ℕ) → v < 2 ^ (8 * hash1 size - 2) → q < 4 → (v + q * 2 ^ (8 * hash1 size - 2)) / 16 ^ (2 * hash1 size - 1) % 16 / 4 ≡ q
+request-at : (size v q : ℕ) → v < 2 ^ (8 * hash1 size - 2) → q < 4
+    → (v + q * 2 ^ (8 * hash1 size - 2)) / 16 ^ (2 * hash1 size - 1) % 16 / 4 ≡ q
 unfolding hash1
 request-at size v q h l = go (eqb size 40) h
   where
@@ -193,11 +202,11 @@ request-ordered size mode q a l =
 
 pub rest-ordered : (size mode q : ℕ) (a : List ℕ) → restIn size mode (ordered size mode q a) ≡ a
 unfolding restIn ordered
-rest-ordered size mode q a = drop-at (heading size mode q a) a (2 * hash1 size + 2 * hash2 size mode) (length-heading size mode q a)
+rest-ordered size mode q a = drop-at (heading size mode q a) a (headingSize size mode) (length-heading size mode q a)
 
-front-ordered : (size mode q : ℕ) (a : List ℕ) → take (2 * hash1 size + 2 * hash2 size mode) (ordered size mode q a) ≡ heading size mode q a
+front-ordered : (size mode q : ℕ) (a : List ℕ) → take (headingSize size mode) (ordered size mode q a) ≡ heading size mode q a
 unfolding ordered
-front-ordered size mode q a = take-at (heading size mode q a) a (2 * hash1 size + 2 * hash2 size mode) (length-heading size mode q a)
+front-ordered size mode q a = take-at (heading size mode q a) a (headingSize size mode) (length-heading size mode q a)
 
 pub matches-ordered : (size mode q : ℕ) (a : List ℕ) → q < 4 → Matches size mode (ordered size mode q a)
 unfolding Matches
@@ -208,7 +217,7 @@ matches-ordered size mode q a l =
 pub ordered-back : (size mode : ℕ) (t : List ℕ) → Matches size mode t → ordered size mode (requestIn size t) (restIn size mode t) ≡ t
 unfolding Matches ordered restIn
 ordered-back size mode t m =
-    ap (λ (l : List ℕ). l ++ drop (2 * hash1 size + 2 * hash2 size mode) t) m ∙ take-append-drop (2 * hash1 size + 2 * hash2 size mode) t
+    ap (λ (l : List ℕ). l ++ drop (headingSize size mode) t) m ∙ take-append-drop (headingSize size mode) t
 
 -- ---- the way back, of the data of a slot
 
@@ -218,11 +227,11 @@ request-lt size t h = let a = h (2 * hash1 size - 1) in omega arith
 
 pub below-rest : (size mode : ℕ) (t : List ℕ) → Below 16 t → Below 16 (restIn size mode t)
 unfolding restIn
-below-rest size mode t h = below-drop 16 (2 * hash1 size + 2 * hash2 size mode) t h
+below-rest size mode t h = below-drop 16 (headingSize size mode) t h
 
 pub length-rest : (size mode : ℕ) (t : List ℕ) → Data size mode t → length (restIn size mode t) ≡ 2 * frameSize size mode
 unfolding restIn
-length-rest size mode t d = let l = d .long in length-drop (2 * hash1 size + 2 * hash2 size mode) t ∙ omega arith
+length-rest size mode t d = let l = d .long in length-drop (headingSize size mode) t ∙ omega arith
 
 pub sent-of : (size mode : ℕ) (s : List ℕ) → Data size mode s → Sent size mode (requestOf size mode s) (frameOf size mode s)
 unfolding requestOf frameOf
@@ -250,7 +259,8 @@ data-back size mode s r d m =
 module _ (size mode q : ℕ) (frame : List ℕ) (range : InRange size mode) (sent : Sent size mode q frame) where
   unmixed : requestSwapped size mode (dataOf size mode q frame) ≡ ordered size mode q (unrolled (frameSize size mode) frame)
   unfolding dataOf
-  unmixed = request-swapped-twice size mode (ordered size mode q (unrolled (frameSize size mode) frame)) range (data-ordered size mode q frame)
+  unmixed = request-swapped-twice size mode (ordered size mode q (unrolled (frameSize size mode) frame)) range
+      (data-ordered size mode q frame)
 
   pub request-back : requestOf size mode (dataOf size mode q frame) ≡ q
   unfolding requestOf

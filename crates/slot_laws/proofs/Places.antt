@@ -96,7 +96,8 @@ module _ (size : ℕ) (g : ℕ → ℕ → ℕ) (from : 40 ≤ size) (small : (i
       (λ p l.
       let i = wordOf size p in
       let k = numberIn size p in
-      ap (λ (x : ℕ). sum x (g i k)) (getD-tab (λ k. sum (semi slot (placeOf size i k)) (g i k)) (wordLength size i) k (number-lt size p from l))
+      ap (λ (x : ℕ). sum x (g i k))
+      (getD-tab (λ k. sum (semi slot (placeOf size i k)) (g i k)) (wordLength size i) k (number-lt size p from l))
       ∙ sum-undone (semi slot (placeOf size i k)) (g i k)
       ∙ ap (semi slot) (place-back size p l))
       ∙ pack-semi slot size b
@@ -109,10 +110,13 @@ module _ (size : ℕ) (g : ℕ → ℕ → ℕ) (from : 40 ≤ size) (small : (i
   }
 
 -- the slots of the same words are the same
-pub slot-same : (size : ℕ) (g : ℕ → ℕ → ℕ) (v w : ℕ → List ℕ) → 40 ≤ size → ((i : ℕ) → i < words size → v i ≡ w i) → slotFrom size g v ≡ slotFrom size g w
+pub slot-same : (size : ℕ) (g : ℕ → ℕ → ℕ) (v w : ℕ → List ℕ) → 40 ≤ size → ((i : ℕ) → i < words size → v i ≡ w i)
+    → slotFrom size g v ≡ slotFrom size g w
 unfolding slotFrom
 slot-same size g v w h e =
-    pack-same _ _ size (λ p l. ap (λ (x : List ℕ). sum (getD x (numberIn size p) 0) (g (wordOf size p) (numberIn size p))) (e (wordOf size p) (word-lt size p h)))
+    pack-same _ _ size
+    (λ p l. ap (λ (x : List ℕ). sum (getD x (numberIn size p) 0) (g (wordOf size p) (numberIn size p)))
+    (e (wordOf size p) (word-lt size p h)))
 
 -- ---- changed places
 

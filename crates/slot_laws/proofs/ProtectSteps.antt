@@ -2,34 +2,24 @@
 -- Assumes nothing.
 use mathlib.Core.Path.{_≡_, sym, ap, _∙_}
 use mathlib.Core.List.{List, _++_}
-use Prim.Native.Nat.{ℕ, _+_, _*_, _≤_}
-use native.Mathlib.Omega.{arith}
+use Prim.Native.Nat.{ℕ}
 use lib.ListN.{length, take, replicate}
 use lib.Seq.{take-at}
-use Rattle.slot_laws.specs.Sizes.{InRange, hash1, hash2, frameSize}
+use Rattle.slot_laws.specs.Sizes.{dataSize}
 use Rattle.slot_laws.specs.Order.{dataOf}
 use Rattle.slot_laws.specs.Slot.{slotWith, slotOf}
-use Rattle.slot_laws.proofs.Sizes.{sizes}
 use Rattle.slot_laws.proofs.Order.{data-of}
 
 abbrev pub blanks : List ℕ
 blanks = replicate 800 0
 
--- the data's length, from the parts that the code adds
-pub message-long : (size mode a b n : ℕ) → InRange size mode → a ≡ hash1 size → b ≡ hash2 size mode → n ≡ frameSize size mode
-    → (2 * a + 2 * b + 2 * n ≡ 2 * hash1 size + 2 * hash2 size mode + 2 * frameSize size mode) × (2 * a + 2 * b + 2 * n ≤ 800)
-message-long size mode a b n r e f g =
-    let s = sizes size mode r in
-    let t = r .size-to in
-    (omega arith, omega arith)
-
 -- the data are the front of the buffer
-pub message-is : (size mode q e : ℕ) (frame last rest : List ℕ) → e ≡ 2 * hash1 size + 2 * hash2 size mode + 2 * frameSize size mode → last ≡ dataOf size mode q frame
+pub message-is : (size mode q e : ℕ) (frame last rest : List ℕ) → e ≡ dataSize size mode → last ≡ dataOf size mode q frame
     → take e (last ++ rest) ≡ dataOf size mode q frame
 message-is size mode q e frame last rest h f =
     take-at last rest e (ap (λ (s : List ℕ). length s) f ∙ data-of size mode q frame .long ∙ sym h) ∙ f
 
-pub slot-is : (size mode q e : ℕ) (frame last rest new : List ℕ) → e ≡ 2 * hash1 size + 2 * hash2 size mode + 2 * frameSize size mode
+pub slot-is : (size mode q e : ℕ) (frame last rest new : List ℕ) → e ≡ dataSize size mode
     → last ≡ dataOf size mode q frame → new ≡ slotWith size mode (take e (last ++ rest)) → new ≡ slotOf size mode q frame
 unfolding slotOf
 slot-is size mode q e frame last rest new h f g = g ∙ ap (slotWith size mode) (message-is size mode q e frame last rest h f)

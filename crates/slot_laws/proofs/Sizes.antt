@@ -12,7 +12,8 @@ use Rattle.laws.proofs.Tab.{total-same, total-less, total-back, total-up, total
 use Rattle.laws.proofs.Every.{both, both-left, both-right, at2}
 use Rattle.laws.proofs.Spread.{share, share-is, share-lt, lt-share, shares}
 use Rattle.code_word_laws.specs.Word.{distance}
-use Rattle.slot_laws.specs.Sizes.{InRange, words, wordLength, dataLength, concealWords, block, conceal, hash1, hash2, frameSize}
+use Rattle.slot_laws.specs.Sizes.{InRange, words, wordLength, dataLength, concealWords, block, conceal}
+use Rattle.slot_laws.specs.Sizes.{hash1, hash2, frameSize, dataSize}
 
 -- ---- words and their lengths
 
@@ -138,14 +139,16 @@ frame-bounds size mode r =
 
 -- the data words hold the hashes and the frame
 pub data-lengths : (size mode : ℕ) → InRange size mode
-    → total (dataLength size mode) (words size) ≡ 2 * hash1 size + 2 * hash2 size mode + 2 * frameSize size mode
+    → total (dataLength size mode) (words size) ≡ dataSize size mode
 unfolding dataLength
 data-lengths size mode r =
-    let t = total-less (wordLength size) (distance mode - 1) (words size) (λ i l. omega (arith, length-low size i (r .size-from) l, r .mode-to)) in
+    let t = total-less (wordLength size) (distance mode - 1) (words size)
+    (λ i l. omega (arith, length-low size i (r .size-from) l, r .mode-to)) in
     let s = sizes size mode r in
     let l = lengths size (r .size-from) in
     let e : 2 * mode - 1 - 1 ≡ (mode - 1) * 2 = omega arith in
-    let m : words size * (2 * mode - 1 - 1) ≡ words size * (mode - 1) * 2 = ap (λ (x : ℕ). words size * x) e ∙ sym (mul-assoc (words size) (mode - 1) 2) in
+    let m : words size * (2 * mode - 1 - 1) ≡ words size * (mode - 1) * 2 = ap (λ (x : ℕ). words size * x) e
+    ∙ sym (mul-assoc (words size) (mode - 1) 2) in
     omega arith
 
 -- ---- the partial concealment block
@@ -206,7 +209,7 @@ swap-apart size mode r = go (eqb size 40) refl
     go true e = omega (arith, l, r .mode-to)
     go false e = omega (arith, l, r .mode-to)
 
-pub swap-in : (size mode : ℕ) → InRange size mode → wordLength size 0 - distance mode < 2 * hash1 size + 2 * hash2 size mode + 2 * frameSize size mode
+pub swap-in : (size mode : ℕ) → InRange size mode → wordLength size 0 - distance mode < dataSize size mode
 swap-in size mode r =
     let w = words-low size (r .size-from) in
     let t = total-up (dataLength size mode) 1 (words size) (omega arith) in

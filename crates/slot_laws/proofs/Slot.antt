@@ -26,7 +26,8 @@ use Rattle.slot_laws.proofs.Sizes.{length-high, checks-fit, data-length
 use Rattle.slot_laws.proofs.Semi.{semi-octets-of, below-of}
 use Rattle.slot_laws.proofs.Places.{AllWords, bytes-slot, received-slot, slot-received, words-received, slot-same}
 use Rattle.slot_laws.proofs.Order.{data-of, sent-of, data-back, request-back, frame-back, matches-back}
-use Rattle.slot_laws.proofs.Words.{joined, joined-same, length-joined, below-joined, length-piece, below-piece, joined-piece, piece-joined}
+use Rattle.slot_laws.proofs.Words.{joined, joined-same, length-joined, below-joined, length-piece, below-piece, joined-piece}
+use Rattle.slot_laws.proofs.Words.{piece-joined}
 
 -- ---- the signature is of semi-octets
 
@@ -110,12 +111,14 @@ length-message : (size mode : ℕ) (slot : List ℕ) → InRange size mode → (
     → length (drop (distance mode - 1) (wordIn size mode slot i)) ≡ dataLength size mode i
 length-message size mode slot r i l =
     let c = checks-fit size mode i r l in
-    length-drop (distance mode - 1) (wordIn size mode slot i) ∙ ap (λ (x : ℕ). x - (distance mode - 1)) (words-in size mode slot r .long i l) ∙ omega arith
+    length-drop (distance mode - 1) (wordIn size mode slot i)
+    ∙ ap (λ (x : ℕ). x - (distance mode - 1)) (words-in size mode slot r .long i l) ∙ omega arith
 
 pub data-gathered : (size mode : ℕ) (slot : List ℕ) → InRange size mode → Data size mode (gathered size mode slot)
 unfolding gathered
 data-gathered size mode slot r = record {
-  long = length-joined (λ i. drop (distance mode - 1) (wordIn size mode slot i)) (dataLength size mode) (words size) (length-message size mode slot r)
+  long = length-joined (λ i. drop (distance mode - 1) (wordIn size mode slot i)) (dataLength size mode) (words size)
+      (length-message size mode slot r)
       ∙ data-lengths size mode r;
   below = below-joined 16 (λ i. drop (distance mode - 1) (wordIn size mode slot i)) (words size) (omega arith)
       (λ i l. below-drop 16 (distance mode - 1) (wordIn size mode slot i) (words-in size mode slot r .below i l));
@@ -156,7 +159,8 @@ slot-gathered size mode slot r b v =
     slot-same size (signature mode) (codeWord size mode (gathered size mode slot)) (wordIn size mode slot) (r .size-from)
     (λ i l.
     ap (coded (distance mode))
-    (piece-joined (λ i. drop (distance mode - 1) (wordIn size mode slot i)) (dataLength size mode) (words size) i l (length-message size mode slot r))
+    (piece-joined (λ i. drop (distance mode - 1) (wordIn size mode slot i)) (dataLength size mode) (words size) i l
+    (length-message size mode slot r))
     ∙ word-back size mode slot r i l (v i l))
     ∙ slot-received size (signature mode) (r .size-from) (signature-lt mode) slot b
 
@@ -170,7 +174,8 @@ pub valid-slot : (size mode q : ℕ) (frame : List ℕ) → InRange size mode �
 unfolding slotOf
 valid-slot size mode q frame r = valid-with size mode (dataOf size mode q frame) r (data-of size mode q frame)
 
-pub gathered-of : (size mode q : ℕ) (frame : List ℕ) → InRange size mode → gathered size mode (slotOf size mode q frame) ≡ dataOf size mode q frame
+pub gathered-of : (size mode q : ℕ) (frame : List ℕ) → InRange size mode
+    → gathered size mode (slotOf size mode q frame) ≡ dataOf size mode q frame
 unfolding slotOf
 gathered-of size mode q frame r = gathered-slot size mode (dataOf size mode q frame) r (data-of size mode q frame)
 
@@ -193,7 +198,8 @@ pub slot-read : (size mode : ℕ) (slot : List ℕ) → InRange size mode → By
     → slotOf size mode (requestFrom size mode slot) (frameFrom size mode slot) ≡ slot
 unfolding slotOf requestFrom frameFrom HashesMatch
 slot-read size mode slot r b v m =
-    ap (slotWith size mode) (data-back size mode (gathered size mode slot) r (data-gathered size mode slot r) m) ∙ slot-gathered size mode slot r b v
+    ap (slotWith size mode) (data-back size mode (gathered size mode slot) r (data-gathered size mode slot r) m)
+    ∙ slot-gathered size mode slot r b v
 
 -- what protecting makes gives its request and its frame back, and its hashes match
 module _ (size mode q : ℕ) (frame : List ℕ) (range : InRange size mode) (sent : Sent size mode q frame) where

@@ -5,7 +5,7 @@ use mathlib.Core.Path.{_≡_}
 use mathlib.Core.List.{List}
 use Prim.Native.Nat.{ℕ, _+_, _*_, _-_, _/_}
 use lib.ListN.{take, drop, getD}
-use Rattle.slot_laws.specs.Sizes.{hash1, hash2, frameSize}
+use Rattle.slot_laws.specs.Sizes.{hash1, headingSize, frameSize}
 use Rattle.slot_laws.specs.Semi.{pack}
 use Rattle.slot_laws.specs.Order.{heading, requestSwapped}
 
@@ -19,11 +19,11 @@ requestIn size t = getD t (2 * hash1 size - 1) 0 / 4
 
 -- the frame's semi-octets
 unfoldable pub restIn : ℕ → ℕ → List ℕ → List ℕ
-restIn size mode t = drop (2 * hash1 size + 2 * hash2 size mode) t
+restIn size mode t = drop (headingSize size mode) t
 
 -- the heading is the one that the request and the frame's semi-octets make
 unfoldable pub Matches : ℕ → ℕ → List ℕ → Type 0
-Matches size mode t = heading size mode (requestIn size t) (restIn size mode t) ≡ take (2 * hash1 size + 2 * hash2 size mode) t
+Matches size mode t = heading size mode (requestIn size t) (restIn size mode t) ≡ take (headingSize size mode) t
 
 -- the same from the data as the words carry them, the swap undone
 unfoldable pub requestOf : ℕ → ℕ → List ℕ → ℕ

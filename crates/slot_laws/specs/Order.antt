@@ -8,7 +8,7 @@ use lib.Dec.{eqb}
 use lib.ListN.{length, take, drop, getD, set}
 use Rattle.laws.specs.Tab.{tab, pick, Below}
 use Rattle.code_word_laws.specs.Word.{distance}
-use Rattle.slot_laws.specs.Sizes.{wordLength, conceal, hash1, hash2, frameSize}
+use Rattle.slot_laws.specs.Sizes.{wordLength, conceal, hash1, hash2, frameSize, dataSize}
 use Rattle.slot_laws.specs.Semi.{semi}
 use Rattle.slot_laws.specs.Hash.{bitsOf, hash, poly14, poly16, poly22}
 
@@ -60,5 +60,5 @@ dataOf size mode q frame = requestSwapped size mode (ordered size mode q (unroll
 
 -- the data semi-octets of a slot: as many as the hashes and the frame have
 pub record Data (size mode : ℕ) (s : List ℕ) : Type 0 where
-  pub long : length s ≡ 2 * hash1 size + 2 * hash2 size mode + 2 * frameSize size mode
+  pub long : length s ≡ dataSize size mode
   pub below : Below 16 s

@@ -1,7 +1,7 @@
 -- The sizes of a slot's parts (A.7 to A.15), from the slot's size in bytes and the mode.
 -- Assumes nothing.
 use mathlib.Core.Path.{_≡_}
-use Prim.Native.Nat.{ℕ, _+_, _-_, _*_, _/_, _≤_}
+use Prim.Native.Nat.{ℕ, _+_, _-_, _*_, _/_, _≤_, _<_}
 use lib.Dec.{leb, eqb}
 use Rattle.laws.specs.Tab.{total, pick}
 use Rattle.code_word_laws.specs.Word.{distance}
@@ -12,6 +12,11 @@ pub record InRange (size mode : ℕ) : Type 0 where
   pub size-to : size ≤ 400
   pub mode-from : 2 ≤ mode
   pub mode-to : mode ≤ 4
+
+-- .. and the request
+pub record Settings (size mode q : ℕ) : Type 0 where
+  pub range : InRange size mode
+  pub request : q < 4
 
 -- the number of words: 2 x slot / 15, rounded up (A.7)
 unfoldable pub words : ℕ → ℕ
@@ -53,6 +58,23 @@ hash2 size mode = pick (leb 80 size) (pick (leb 3 mode) 2 0) 0
 -- the frame in bytes (A.15); N (d - 1) / 2 is N (m - 1)
 unfoldable pub frameSize : ℕ → ℕ → ℕ
 frameSize size mode = size - hash1 size - hash2 size mode - words size * (mode - 1)
+
+-- the semi-octets of the heading: first hash with the request, and second hash
+abbrev pub headingSize : ℕ → ℕ → ℕ
+headingSize size mode = 2 * hash1 size + 2 * hash2 size mode
+
+-- the semi-octets of a slot's data: heading and frame
+abbrev pub dataSize : ℕ → ℕ → ℕ
+dataSize size mode = headingSize size mode + 2 * frameSize size mode
+
+-- the two as a caller learns them, with their bounds
+pub record IsHeadingSize (size mode r : ℕ) : Type 0 where
+  pub is : r ≡ headingSize size mode
+  pub most : r ≤ 10
+
+pub record IsDataSize (size mode r : ℕ) : Type 0 where
+  pub is : r ≡ dataSize size mode
+  pub most : r ≤ 800
 
 -- what a caller who asks for the frame's size gets: 0 where a setting is out of range
 pub record IsFrameSize (size mode r : ℕ) : Type 0 where

@@ -11,12 +11,14 @@ use lib.Seq.{length-take-le, take-at, drop-at, take-all}
 use borrow.Rule.Slice.PartMut.{midOf, putMid}
 use Rattle.laws.proofs.Tab.{tab-is}
 use Rattle.laws.proofs.Fill.{Filled, filled-next, filled-last}
-use Rattle.slot_laws.specs.Sizes.{InRange, wordLength, hash1, hash2, frameSize}
+use Rattle.code_word_laws.specs.Word.{distance}
+use Rattle.slot_laws.specs.Sizes.{InRange, wordLength, hash1, hash2, frameSize, headingSize, dataSize}
 use Rattle.slot_laws.specs.Semi.{half, semi}
 use Rattle.slot_laws.specs.Order.{unrolled, semis, heading, ordered, swapped, requestSwapped, dataOf, firstHash, secondHash, Data}
 use Rattle.slot_laws.proofs.Order.{length-semis, getD-semis, length-heading, data-ordered}
 use Rattle.slot_laws.proofs.Sizes.{swap-apart, swap-in, sizes}
 use Rattle.slot_sizes.proofs.SizeSteps.{hash1-forty, hash1-other}
+use Rattle.slot_ordering.specs.Room.{TwoPlaces}
 
 -- ---- the frame's semi-octets
 
@@ -24,11 +26,13 @@ use Rattle.slot_sizes.proofs.SizeSteps.{hash1-forty, hash1-other}
 unfoldable pub turned : List ℕ → ℕ → ℕ
 turned frame k = semi frame (2 * length frame - 1 - k)
 
-pub unrolled-is : (frame out : List ℕ) (k : ℕ) → length frame ≤ k → Filled (turned frame) (2 * length frame) (2 * k) out → out ≡ unrolled (length frame) frame
+pub unrolled-is : (frame out : List ℕ) (k : ℕ) → length frame ≤ k → Filled (turned frame) (2 * length frame) (2 * k) out
+    → out ≡ unrolled (length frame) frame
 unfolding unrolled turned
 unrolled-is frame out k h f = filled-last (turned frame) (2 * length frame) (2 * k) out f (omega arith)
 
-turned-even : (frame : List ℕ) (k : ℕ) → k < length frame → getD frame (length frame - 1 - k) 0 < 256 → getD frame (length frame - 1 - k) 0 / 16 ≡ turned frame (2 * k)
+turned-even : (frame : List ℕ) (k : ℕ) → k < length frame → getD frame (length frame - 1 - k) 0 < 256
+    → getD frame (length frame - 1 - k) 0 / 16 ≡ turned frame (2 * k)
 unfolding turned semi half
 turned-even frame k h l =
     let a : (2 * length frame - 1 - 2 * k) % 2 ≡ 1 = omega arith in
@@ -72,7 +76,8 @@ left-next v left i e =
     let p : 16 ^ (i + 1) ≡ 16 ^ i * 16 = ap (λ (x : ℕ). 16 ^ x) (add-one i) ∙ pow-suc 16 i in
     ap (λ (x : ℕ). x / 16) e ∙ div-div-eq-div-mul v (16 ^ i) 16 ∙ ap (λ (x : ℕ). v / x) (sym p)
 
-pub semis-next : (v left n i : ℕ) (out : List ℕ) → left ≡ v / 16 ^ i → i < n → Filled (digit v) n i out → Filled (digit v) n (i + 1) (set out i (left % 16))
+pub semis-next : (v left n i : ℕ) (out : List ℕ) → left ≡ v / 16 ^ i → i < n → Filled (digit v) n i out
+    → Filled (digit v) n (i + 1) (set out i (left % 16))
 unfolding digit
 semis-next v left n i out e h f = filled-next (digit v) n i out (left % 16) f h (ap (λ (x : ℕ). x % 16) e)
 
@@ -85,7 +90,8 @@ pub raised-other : (size q : ℕ) → (size ≡ 40 → ⊥) → q * 4194304 ≡ 
 raised-other size q n = rw (hash1-other size n)
 
 -- a list written in two parts, the front and the rest
-pub put-two : (e : ℕ) (front rest old : List ℕ) → length front ≡ e → putMid e (length (front ++ drop e old) - e) (front ++ drop e old) rest ≡ front ++ rest
+pub put-two : (e : ℕ) (front rest old : List ℕ) → length front ≡ e
+    → putMid e (length (front ++ drop e old) - e) (front ++ drop e old) rest ≡ front ++ rest
 put-two e front rest old h =
     let n = length-append front (drop e old) in
     let l : length (drop e old) ≤ length (front ++ drop e old) - e = omega arith in
@@ -102,7 +108,7 @@ rest-long e n front old h l k =
     let f = length-drop e (front ++ drop e old) in
     length-take-le (length (front ++ drop e old) - e) (drop e (front ++ drop e old)) (omega arith) ∙ omega arith
 
-pub heading-is : (size mode q e : ℕ) (a out front rest : List ℕ) (v w : ℕ) → e ≡ 2 * hash1 size → length out ≡ 2 * hash1 size + 2 * hash2 size mode
+pub heading-is : (size mode q e : ℕ) (a out front rest : List ℕ) (v w : ℕ) → e ≡ 2 * hash1 size → length out ≡ headingSize size mode
     → v ≡ firstHash size mode q a + q * 2 ^ (8 * hash1 size - 2) → w ≡ secondHash size mode a
     → front ≡ semis (length (take e out)) v → rest ≡ semis (length (midOf e (length (front ++ drop e out) - e) (front ++ drop e out))) w
     → putMid e (length (front ++ drop e out) - e) (front ++ drop e out) rest ≡ heading size mode q a
@@ -116,17 +122,18 @@ heading-is size mode q e a out front rest v w h k f g x y =
 
 -- ---- the swap
 
-pub swap-request-inside : (size mode a l : ℕ) (s : List ℕ) → InRange size mode → Data size mode s → a ≡ hash1 size → l ≡ wordLength size 0
-    → (2 * a - 1 < length s) × (l - (2 * mode - 1) < length s)
-swap-request-inside size mode a l s r d e f =
+pub swap-request-inside : (size mode a l d : ℕ) (s : List ℕ) → InRange size mode → Data size mode s → a ≡ hash1 size
+    → l ≡ wordLength size 0 → d ≡ distance mode → TwoPlaces s (2 * a - 1) (l - d)
+swap-request-inside size mode a l d s r t e f g =
     let x = swap-apart size mode r in
     let y = swap-in size mode r in
-    let z = d .long in
-    (omega arith, omega arith)
+    let z = t .long in
+    record { first = omega arith; second = omega arith; below = t .below }
 
-pub request-swapped-is : (size mode a l : ℕ) (s new : List ℕ) → a ≡ hash1 size → l ≡ wordLength size 0 → new ≡ swapped (2 * a - 1) (l - (2 * mode - 1)) s → new ≡ requestSwapped size mode s
+pub request-swapped-is : (size mode a l d : ℕ) (s new : List ℕ) → a ≡ hash1 size → l ≡ wordLength size 0 → d ≡ distance mode
+    → new ≡ swapped (2 * a - 1) (l - d) s → new ≡ requestSwapped size mode s
 unfolding requestSwapped
-request-swapped-is size mode a l s new e f g = g ∙ ap₂ (λ (x y : ℕ). swapped (2 * x - 1) (y - (2 * mode - 1)) s) e f
+request-swapped-is size mode a l d s new e f g h = h ∙ rw (e, f, g)
 
 -- ---- the heading put in front
 
@@ -138,9 +145,10 @@ rest-is n h out e =
     let d = length-drop h out in
     length-take-le (length out - h) (drop h out) (omega arith) ∙ omega arith
 
-pub front-is : (size mode q h : ℕ) (out head last rest : List ℕ) → h ≡ 2 * hash1 size + 2 * hash2 size mode
-    → length out ≡ 2 * hash1 size + 2 * hash2 size mode + 2 * frameSize size mode → head ≡ heading size mode q (take (length out - h) (drop h out))
-    → last ≡ take (length (take h out)) (drop 0 (head ++ rest)) → last ++ drop h out ≡ ordered size mode q (drop (2 * hash1 size + 2 * hash2 size mode) out)
+pub front-is : (size mode q h : ℕ) (out head last rest : List ℕ) → h ≡ headingSize size mode
+    → length out ≡ dataSize size mode → head ≡ heading size mode q (take (length out - h) (drop h out))
+    → last ≡ take (length (take h out)) (drop 0 (head ++ rest))
+    → last ++ drop h out ≡ ordered size mode q (drop (headingSize size mode) out)
 unfolding ordered
 front-is size mode q h out head last rest e l f g =
     let d = length-drop h out in
@@ -157,19 +165,23 @@ behind : (h : ℕ) (out last : List ℕ) → h ≤ length out → drop h (putMid
 behind h out last l =
     let d = length-drop h out in
     let z : drop (length out - h) (drop h out) ≡ [] = drop-of-length-le (drop h out) {i = length out - h} (omega arith) in
-    drop-at (take h out) (last ++ drop (length out - h) (drop h out)) h (length-take-le h out l) ∙ ap (λ (t : List ℕ). last ++ t) z ∙ append-nil last
+    drop-at (take h out) (last ++ drop (length out - h) (drop h out)) h (length-take-le h out l) ∙ ap (λ (t : List ℕ). last ++ t) z
+    ∙ append-nil last
 
-pub arranged : (size mode q h : ℕ) (frame out last front : List ℕ) → h ≡ 2 * hash1 size + 2 * hash2 size mode → h ≤ length out → length frame ≡ frameSize size mode
-    → last ≡ unrolled (length frame) frame → front ≡ ordered size mode q (drop (2 * hash1 size + 2 * hash2 size mode) (putMid h (length out - h) out last))
+pub arranged : (size mode q h : ℕ) (frame out last front : List ℕ) → h ≡ headingSize size mode → h ≤ length out
+    → length frame ≡ frameSize size mode
+    → last ≡ unrolled (length frame) frame → front ≡ ordered size mode q (drop (headingSize size mode) (putMid h (length out - h) out last))
     → front ≡ ordered size mode q (unrolled (frameSize size mode) frame)
 arranged size mode q h frame out last front e l n u f =
     f ∙ ap (λ (m : ℕ). ordered size mode q (drop m (putMid h (length out - h) out last))) (sym e)
     ∙ ap (ordered size mode q) (behind h out last l ∙ u ∙ ap (λ (m : ℕ). unrolled m frame) n)
 
-pub data-arranged : (size mode q : ℕ) (frame front : List ℕ) → front ≡ ordered size mode q (unrolled (frameSize size mode) frame) → Data size mode front
+pub data-arranged : (size mode q : ℕ) (frame front : List ℕ) → front ≡ ordered size mode q (unrolled (frameSize size mode) frame)
+    → Data size mode front
 data-arranged size mode q frame front e = rw e (data-ordered size mode q frame)
 
-pub data-is : (size mode q : ℕ) (frame front new : List ℕ) → front ≡ ordered size mode q (unrolled (frameSize size mode) frame) → new ≡ requestSwapped size mode front
+pub data-is : (size mode q : ℕ) (frame front new : List ℕ) → front ≡ ordered size mode q (unrolled (frameSize size mode) frame)
+    → new ≡ requestSwapped size mode front
     → new ≡ dataOf size mode q frame
 unfolding dataOf
 data-is size mode q frame front new e f = f ∙ ap (requestSwapped size mode) e

@@ -4,13 +4,14 @@
 ghost use mathlib.Core.Path.{_≡_};
 ghost use Prim.Native.Nat.{_+_, _-_, _*_, _^_, _≤_, _<_};
 ghost use lib.ListN.{length, drop};
-ghost use Rattle.laws.specs.Tab.{Below};
-ghost use Rattle.slot_laws.specs.Sizes.{InRange, hash1, hash2, frameSize};
+ghost use Rattle.slot_laws.specs.Sizes.{InRange, Settings, hash1, headingSize, dataSize};
 ghost use Rattle.slot_laws.specs.Order.{unrolled, semis, heading, ordered, swapped, requestSwapped, dataOf, Data};
+ghost use Rattle.slot_ordering.specs.Room.{HeadingRoom, DataRoom, TwoPlaces};
 
 // The frame's semi-octets, byte order reversed (A.16, A.17).
 pub fn unroll(frame: &[u8], out: &mut [u8])
-    requires { ⌜ (length (now out) ≡ 2 * length (now frame)) × (length (now frame) ≤ 400) ⌝ }
+    requires { ⌜ length (now out) ≡ 2 * length (now frame) ⌝ }
+    requires { ⌜ length (now frame) ≤ 400 ⌝ }
     ensures { λ _. ⌜ now (out .exit) ≡ unrolled (length (now (frame .entry))) (now (frame .entry)) ⌝ }
 {
     let n = frame.len();
@@ -39,7 +40,8 @@ fn put_semis(v: u32, out: &mut [u8])
 // The request behind the first hash's bits.
 fn raised(size: usize, request: u32) -> u32
     requires { ⌜ request < 4 ⌝ }
-    ensures { λ r. ⌜ (r ≡ request * 2 ^ (8 * hash1 size - 2)) × (r ≤ 12582912) ⌝ }
+    ensures { λ r. ⌜ r ≡ request * 2 ^ (8 * hash1 size - 2) ⌝ }
+    ensures { λ r. ⌜ r ≤ 12582912 ⌝ }
 {
     match size {
         40 => request * 16384,
@@ -49,7 +51,8 @@ fn raised(size: usize, request: u32) -> u32
 
 // First hash, request and second hash (A.26 to A.29).
 pub fn put_heading(size: usize, mode: usize, request: u32, a: &[u8], out: &mut [u8])
-    requires { ⌜ (InRange size mode) × (request < 4) × (length (now a) ≡ 2 * frameSize size mode) × (length (now out) ≡ 2 * hash1 size + 2 * hash2 size mode) ⌝ }
+    requires { ⌜ Settings size mode request ⌝ }
+    requires { ⌜ HeadingRoom size mode (now a) (now out) ⌝ }
     ensures { λ _. ⌜ now (out .exit) ≡ heading size mode request (now (a .entry)) ⌝ }
 {
     let e = 2 * slot_sizes::first_hash_size(size);
@@ -62,7 +65,7 @@ pub fn put_heading(size: usize, mode: usize, request: u32, a: &[u8], out: &mut [
 
 // The upper two bits of semi-octet i and the lower two of semi-octet j change places (A.32 to A.36).
 pub fn swap(s: &mut [u8], i: usize, j: usize)
-    requires { ⌜ (i < length (now s)) × (j < length (now s)) × Below 16 (now s) ⌝ }
+    requires { ⌜ TwoPlaces (now s) i j ⌝ }
     ensures { λ _. ⌜ now (s .exit) ≡ swapped i j (now (s .entry)) ⌝ }
 {
     let a = s[i];
@@ -73,23 +76,26 @@ pub fn swap(s: &mut [u8], i: usize, j: usize)
 
 // The swap of the request's bits, which is its own inverse.
 pub fn swap_request(size: usize, mode: usize, s: &mut [u8])
-    requires { ⌜ (InRange size mode) × Data size mode (now s) ⌝ }
+    requires { ⌜ InRange size mode ⌝ }
+    requires { ⌜ Data size mode (now s) ⌝ }
     ensures { λ _. ⌜ now (s .exit) ≡ requestSwapped size mode (now (s .entry)) ⌝ }
 {
     let count = slot_sizes::word_count(size);
+    let distance = code_word_settings::distance(mode);
     swap(
         s,
         2 * slot_sizes::first_hash_size(size) - 1,
-        slot_sizes::word_length(size, count, 0) - (2 * mode - 1),
+        slot_sizes::word_length(size, count, 0) - distance,
     );
 }
 
 // The heading in front of the frame's semi-octets, which stand in their place already (A.30, A.31).
 fn put_in_front(size: usize, mode: usize, request: u32, out: &mut [u8])
-    requires { ⌜ (InRange size mode) × (request < 4) × (length (now out) ≡ 2 * hash1 size + 2 * hash2 size mode + 2 * frameSize size mode) ⌝ }
-    ensures { λ _. ⌜ now (out .exit) ≡ ordered size mode request (drop (2 * hash1 size + 2 * hash2 size mode) (now (out .entry))) ⌝ }
+    requires { ⌜ Settings size mode request ⌝ }
+    requires { ⌜ length (now out) ≡ dataSize size mode ⌝ }
+    ensures { λ _. ⌜ now (out .exit) ≡ ordered size mode request (drop (headingSize size mode) (now (out .entry))) ⌝ }
 {
-    let h = 2 * slot_sizes::first_hash_size(size) + 2 * slot_sizes::second_hash_size(size, mode);
+    let h = slot_sizes::heading_size(size, mode);
     let mut head = [0u8; 10];
     put_heading(size, mode, request, &out[h..], &mut head[..h]);
     slot_interleaving::copy_part(&head, 0, &mut out[..h]);
@@ -97,10 +103,11 @@ fn put_in_front(size: usize, mode: usize, request: u32, out: &mut [u8])
 
 // The data of a slot (A.16 to A.37).
 pub fn arrange(size: usize, mode: usize, request: u32, frame: &[u8], out: &mut [u8])
-    requires { ⌜ (InRange size mode) × (request < 4) × (length (now frame) ≡ frameSize size mode) × (length (now out) ≡ 2 * hash1 size + 2 * hash2 size mode + 2 * frameSize size mode) ⌝ }
+    requires { ⌜ Settings size mode request ⌝ }
+    requires { ⌜ DataRoom size mode (now frame) (now out) ⌝ }
     ensures { λ _. ⌜ now (out .exit) ≡ dataOf size mode request (now (frame .entry)) ⌝ }
 {
-    let h = 2 * slot_sizes::first_hash_size(size) + 2 * slot_sizes::second_hash_size(size, mode);
+    let h = slot_sizes::heading_size(size, mode);
     unroll(frame, &mut out[h..]);
     put_in_front(size, mode, request, out);
     swap_request(size, mode, out);

@@ -2,18 +2,13 @@
 -- Assumes nothing.
 use mathlib.Core.Path.{_≡_}
 use mathlib.Core.List.{List}
-use Prim.Native.Nat.{ℕ, zero, suc, _<_}
+use Prim.Native.Nat.{ℕ, zero, suc}
 use lib.ListN.{length}
 use Rattle.laws.specs.Tab.{Below}
-use Rattle.slot_laws.specs.Sizes.{InRange, frameSize}
+use Rattle.slot_laws.specs.Sizes.{Settings, frameSize}
 use Rattle.slot_laws.specs.Slot.{slotOf}
 use Rattle.slot_protection.specs.declared.Protection.{Protection}
 use Rattle.slot_protection.specs.declared.Protection.the-variants.{Protected, Setting, Length}
-
--- the settings: slot size, mode and request
-pub record Settings (size mode q : ℕ) : Type 0 where
-  pub range : InRange size mode
-  pub request : q < 4
 
 -- the lent buffers: the frame and the slot
 pub record Lengths (size mode : ℕ) (frame slot : List ℕ) : Type 0 where

@@ -2,8 +2,7 @@
 // that specs/ of `slot_laws` makes, or refuses with 1 or 2 (specs/Protect.antt).
 // Inner: `slot` stands over it and hands `protect` on to callers. It asks nothing.
 ghost use mathlib.Core.Path.{_≡_};
-ghost use Prim.Native.Nat.{_<_};
-ghost use Rattle.slot_laws.specs.Sizes.{InRange};
+ghost use Rattle.slot_laws.specs.Sizes.{Settings};
 ghost use Rattle.slot_protection.specs.Protect.{numberOf, Protects};
 
 // Whether a slot was made; document 01's 0, 1 and 2.
@@ -49,19 +48,16 @@ fn protect_sized(
     frame: &[u8],
     slot: &mut [u8],
 ) -> Protection
-    requires { ⌜ (InRange size mode) × (request < 4) ⌝ }
+    requires { ⌜ Settings size mode request ⌝ }
     ensures { λ r. ⌜ Protects size mode request (now (frame .entry)) (now (slot .entry)) (now (slot .exit)) (numberOf r) ⌝ }
 {
-    let n = slot_sizes::frame_bytes(size, mode);
-    if frame.len() != n {
+    if frame.len() != slot_sizes::frame_bytes(size, mode) {
         return Protection::Length;
     }
     if slot.len() != size {
         return Protection::Length;
     }
-    let e = 2 * slot_sizes::first_hash_size(size)
-        + 2 * slot_sizes::second_hash_size(size, mode)
-        + 2 * n;
+    let e = slot_sizes::data_size(size, mode);
     let mut message = [0u8; 800];
     slot_ordering::arrange(size, mode, request, frame, &mut message[..e]);
     slot_interleaving::write_slot(size, mode, &message[..e], slot);

@@ -10,8 +10,9 @@ use borrow.Author.Tests.{eq-eqb, ne-eqb, le-leb, lt-leb}
 use Rattle.laws.specs.Tab.{pick, total}
 use Rattle.laws.proofs.Every.{at}
 use Rattle.laws.proofs.Tab.{total-next, total-none}
+use Rattle.code_word_laws.specs.Word.{distance}
 use Rattle.slot_laws.specs.Sizes.{InRange, words, wordLength, dataLength, concealWords, block, conceal, hash1, hash2, frameSize}
-use Rattle.slot_laws.proofs.Sizes.{length-low, length-high, overhead, conceal-fits}
+use Rattle.slot_laws.proofs.Sizes.{length-low, length-high, overhead, conceal-few, conceal-fits}
 
 pub word-count-is : (size r : ℕ) → size ≤ 400 → r ≡ (2 * size + 14) / 15 → (r ≡ words size) × (r ≤ 54)
 unfolding words
@@ -58,10 +59,12 @@ hash2-large size mode h k = rw (le-leb 80 size h, le-leb 3 mode k)
 -- ---- partial concealment words
 
 three-test : ℕ → Bool
-three-test k = eqb ((80447761194030 * (80 + k) - 1791044776119394 + 500000000000000) / 1000000000000000) ((539 * (80 + k) - 8650) / 6700)
+three-test k =
+    eqb ((80447761194030 * (80 + k) - 1791044776119394 + 500000000000000) / 1000000000000000) ((539 * (80 + k) - 8650) / 6700)
 
 four-test : ℕ → Bool
-four-test k = eqb ((66492537313433 * (80 + k) - 1970149253731338 + 500000000000000) / 1000000000000000) ((4455 * (80 + k) - 98500) / 67000)
+four-test k =
+    eqb ((66492537313433 * (80 + k) - 1970149253731338 + 500000000000000) / 1000000000000000) ((4455 * (80 + k) - 98500) / 67000)
 
 pub conceal-small : (size mode : ℕ) → size < 80 → concealWords size mode ≡ 0
 unfolding concealWords
@@ -72,7 +75,8 @@ unfolding concealWords three-test
 conceal-three size mode h k e =
     let s : 80 + (size - 80) ≡ size = omega arith in
     let l : size - 80 < 321 = omega arith in
-    let t = eqb→eq ((80447761194030 * (80 + (size - 80)) - 1791044776119394 + 500000000000000) / 1000000000000000) ((539 * (80 + (size - 80)) - 8650) / 6700)
+    let t = eqb→eq ((80447761194030 * (80 + (size - 80)) - 1791044776119394 + 500000000000000) / 1000000000000000)
+    ((539 * (80 + (size - 80)) - 8650) / 6700)
     (at 321 three-test tt (size - 80) l) in
     rw (le-leb 80 size h, eq-eqb mode 3 e) (rw s at t)
 
@@ -82,7 +86,8 @@ conceal-four size mode h k e =
     let s : 80 + (size - 80) ≡ size = omega arith in
     let l : size - 80 < 321 = omega arith in
     let n : (mode ≡ 3 → ⊥) = λ x. omega arith in
-    let t = eqb→eq ((66492537313433 * (80 + (size - 80)) - 1970149253731338 + 500000000000000) / 1000000000000000) ((4455 * (80 + (size - 80)) - 98500) / 67000)
+    let t = eqb→eq ((66492537313433 * (80 + (size - 80)) - 1970149253731338 + 500000000000000) / 1000000000000000)
+    ((4455 * (80 + (size - 80)) - 98500) / 67000)
     (at 321 four-test tt (size - 80) l) in
     rw (le-leb 80 size h, ne-eqb mode 3 n, eq-eqb mode 4 e) (rw s at t)
 
@@ -90,38 +95,40 @@ pub conceal-other : (size mode : ℕ) → (mode ≡ 3 → ⊥) → (mode ≡ 4 �
 unfolding concealWords
 conceal-other size mode n m = rw (ne-eqb mode 3 n, ne-eqb mode 4 m) (pick-same (leb 80 size) 0)
 
+pub conceal-is : (size mode r : ℕ) → 40 ≤ size → concealWords size mode ≡ r → (r ≡ concealWords size mode) × (r ≤ words size)
+conceal-is size mode r g e = let f = conceal-few size mode g in (sym e, omega arith)
+
 -- ---- the block
 
 pub block-none : (size mode : ℕ) → 0 ≡ block size mode 0
 unfolding block
 block-none size mode = sym (total-none (λ j. dataLength size mode (words size - 1 - j)))
 
-pub block-next : (size mode k l sum : ℕ) → l ≡ wordLength size (words size - 1 - k) → sum ≡ block size mode k
-    → sum + (l - 2 * (mode - 1)) ≡ block size mode (k + 1)
+pub block-next : (size mode k l d sum : ℕ) → d ≡ distance mode → l ≡ wordLength size (words size - 1 - k) → sum ≡ block size mode k
+    → sum + (l - (d - 1)) ≡ block size mode (k + 1)
 unfolding block dataLength
-block-next size mode k l sum e h =
-    let c : l - 2 * (mode - 1) ≡ wordLength size (words size - 1 - k) - (2 * mode - 1 - 1) = omega arith in
+block-next size mode k l d sum x e h =
+    let c : l - (d - 1) ≡ wordLength size (words size - 1 - k) - (distance mode - 1) = omega arith in
     ap₂ (λ (x y : ℕ). x + y) h c
-    ∙ sym (total-next (λ j. wordLength size (words size - 1 - j) - (2 * mode - 1 - 1)) k)
-    ∙ ap (λ (x : ℕ). total (λ j. wordLength size (words size - 1 - j) - (2 * mode - 1 - 1)) x) (sym (add-one k))
+    ∙ sym (total-next (λ j. wordLength size (words size - 1 - j) - (distance mode - 1)) k)
+    ∙ ap (λ (x : ℕ). total (λ j. wordLength size (words size - 1 - j) - (distance mode - 1)) x) (sym (add-one k))
 
 conceal-as : (size mode : ℕ) → block size mode (concealWords size mode) ≡ conceal size mode
 unfolding conceal
 conceal-as size mode = refl
 
-pub block-last : (size mode sum : ℕ) → InRange size mode → sum ≡ block size mode (concealWords size mode) → (sum ≡ conceal size mode) × (sum ≤ 2 * frameSize size mode)
-block-last size mode sum r e = let f = conceal-fits size mode r in let d : sum ≡ conceal size mode = e ∙ conceal-as size mode in (d, omega arith)
+pub block-last : (size mode sum : ℕ) → InRange size mode → sum ≡ block size mode (concealWords size mode)
+    → (sum ≡ conceal size mode) × (sum ≤ 2 * frameSize size mode)
+block-last size mode sum r e =
+    let f = conceal-fits size mode r in
+    let d : sum ≡ conceal size mode = e ∙ conceal-as size mode in
+    (d, omega arith)
 
 -- ---- the frame
 
-pub frame-is : (size mode a b w r : ℕ) → InRange size mode → a ≡ hash1 size → b ≡ hash2 size mode → w ≡ words size → r ≡ size - a - b - w * (mode - 1)
-    → (r ≡ frameSize size mode) × (r ≤ 400)
+pub frame-is : (size mode w : ℕ) → w ≡ words size → size - hash1 size - hash2 size mode - w * (mode - 1) ≡ frameSize size mode
 unfolding frameSize
-frame-is size mode a b w r g d e f h =
-    (h ∙ ap₂ (λ (x y : ℕ). size - x - y - w * (mode - 1)) d e ∙ ap (λ (x : ℕ). size - hash1 size - hash2 size mode - x * (mode - 1)) f, omega (arith, g .size-to))
+frame-is size mode w e = rw e
 
-pub check-bytes : (size mode a b w : ℕ) → InRange size mode → a ≡ hash1 size → b ≡ hash2 size mode → w ≡ words size → a + b + w * (mode - 1) ≤ size
-check-bytes size mode a b w g d e f =
-    let o = overhead size mode g in
-    let m : w * (mode - 1) ≡ words size * (mode - 1) = ap (λ (x : ℕ). x * (mode - 1)) f in
-    omega arith
+pub check-bytes : (size mode w : ℕ) → InRange size mode → w ≡ words size → hash1 size + hash2 size mode + w * (mode - 1) ≤ size
+check-bytes size mode w r e = let o = overhead size mode r in rw e (omega arith)

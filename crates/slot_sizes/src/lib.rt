@@ -3,24 +3,31 @@
 // to callers, asks nothing.
 ghost use mathlib.Core.Path.{_≡_};
 ghost use Prim.Native.Nat.{_+_, _*_, _≤_, _<_};
-ghost use Rattle.slot_laws.specs.Sizes.{InRange, words, wordLength, concealWords, conceal, hash1, hash2, frameSize, IsFrameSize};
+ghost use Rattle.slot_laws.specs.Sizes.{InRange, words, wordLength, concealWords, conceal};
+ghost use Rattle.slot_laws.specs.Sizes.{hash1, hash2, frameSize, IsHeadingSize, IsDataSize, IsFrameSize};
 
 pub fn word_count(size: usize) -> usize
     requires { ⌜ size ≤ 400 ⌝ }
-    ensures { λ r. ⌜ (r ≡ words size) × (r ≤ 54) ⌝ }
+    ensures { λ r. ⌜ r ≡ words size ⌝ }
+    ensures { λ r. ⌜ r ≤ 54 ⌝ }
 {
     (2 * size + 14) / 15
 }
 
 pub fn word_length(size: usize, count: usize, i: usize) -> usize
-    requires { ⌜ (40 ≤ size) × (size ≤ 400) × (count ≡ words size) × (i < words size) ⌝ }
+    requires { ⌜ 40 ≤ size ⌝ }
+    requires { ⌜ size ≤ 400 ⌝ }
+    requires { ⌜ count ≡ words size ⌝ }
+    requires { ⌜ i < words size ⌝ }
     ensures { λ r. ⌜ (r ≡ wordLength size i) × (13 ≤ r) × (r ≤ 15) ⌝ }
 {
     (2 * size - i - 1) / count + 1
 }
 
 pub fn first_hash_size(size: usize) -> usize
-    ensures { λ r. ⌜ (r ≡ hash1 size) × (2 ≤ r) × (r ≤ 3) ⌝ }
+    ensures { λ r. ⌜ r ≡ hash1 size ⌝ }
+    ensures { λ r. ⌜ 2 ≤ r ⌝ }
+    ensures { λ r. ⌜ r ≤ 3 ⌝ }
 {
     match size {
         40 => 2,
@@ -29,7 +36,8 @@ pub fn first_hash_size(size: usize) -> usize
 }
 
 pub fn second_hash_size(size: usize, mode: usize) -> usize
-    ensures { λ r. ⌜ (r ≡ hash2 size mode) × (r ≤ 2) ⌝ }
+    ensures { λ r. ⌜ r ≡ hash2 size mode ⌝ }
+    ensures { λ r. ⌜ r ≤ 2 ⌝ }
 {
     if size < 80 {
         return 0;
@@ -44,6 +52,7 @@ pub fn second_hash_size(size: usize, mode: usize) -> usize
 pub fn conceal_count(size: usize, mode: usize) -> usize
     requires { ⌜ InRange size mode ⌝ }
     ensures { λ r. ⌜ r ≡ concealWords size mode ⌝ }
+    ensures { λ r. ⌜ r ≤ words size ⌝ }
 {
     if size < 80 {
         return 0;
@@ -58,14 +67,16 @@ pub fn conceal_count(size: usize, mode: usize) -> usize
 // The data semi-octets of the last words.
 pub fn conceal_size(size: usize, mode: usize) -> usize
     requires { ⌜ InRange size mode ⌝ }
-    ensures { λ r. ⌜ (r ≡ conceal size mode) × (r ≤ 2 * frameSize size mode) ⌝ }
+    ensures { λ r. ⌜ r ≡ conceal size mode ⌝ }
+    ensures { λ r. ⌜ r ≤ 2 * frameSize size mode ⌝ }
 {
     let count = word_count(size);
     let n = conceal_count(size, mode);
+    let checks = code_word_settings::distance(mode) - 1;
     let mut sum: usize = 0;
     let mut k: usize = 0;
     while k < n {
-        sum = sum + (word_length(size, count, count - 1 - k) - 2 * (mode - 1));
+        sum = sum + (word_length(size, count, count - 1 - k) - checks);
         k = k + 1;
     }
     sum
@@ -73,9 +84,25 @@ pub fn conceal_size(size: usize, mode: usize) -> usize
 
 pub fn frame_bytes(size: usize, mode: usize) -> usize
     requires { ⌜ InRange size mode ⌝ }
-    ensures { λ r. ⌜ (r ≡ frameSize size mode) × (r ≤ 400) ⌝ }
+    ensures { λ r. ⌜ r ≡ frameSize size mode ⌝ }
+    ensures { λ r. ⌜ r ≤ 400 ⌝ }
 {
     size - first_hash_size(size) - second_hash_size(size, mode) - word_count(size) * (mode - 1)
+}
+
+// The semi-octets of the heading: first hash, request and second hash.
+pub fn heading_size(size: usize, mode: usize) -> usize
+    ensures { λ r. ⌜ IsHeadingSize size mode r ⌝ }
+{
+    2 * first_hash_size(size) + 2 * second_hash_size(size, mode)
+}
+
+// The semi-octets of a slot's data: heading and frame.
+pub fn data_size(size: usize, mode: usize) -> usize
+    requires { ⌜ InRange size mode ⌝ }
+    ensures { λ r. ⌜ IsDataSize size mode r ⌝ }
+{
+    heading_size(size, mode) + 2 * frame_bytes(size, mode)
 }
 
 // The bytes of a frame in a slot of this size; 0 where a setting is out of range.

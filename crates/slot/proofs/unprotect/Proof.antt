@@ -2,7 +2,7 @@
 use borrow.Author.Needs.{needs}
 use Rattle.slot.proofs.unprotect.Statement.{statement}
 use Rattle.slot.proofs.unprotect.Tie as tie
-use Rattle.slot.specs.Unprotect.{numberOf, requestOf, countOf}
+use Rattle.slot.specs.Unprotect.{toldOf}
 use Rattle.slot.proofs.Bounds.{recordable}
 
 returns : tie.Need-returns
@@ -10,8 +10,7 @@ returns c =
     let u = c .before .before .unprotect-sized in
     let a = c .before .before .before .before .before .before .before .before .before .before .args in (
       u .ensures,
-      recordable (a .size) (a .mode) (a .slot .now) (a .frame .now) (u .last .1 .1 .1 .0)
-          (numberOf (u .result)) (requestOf (u .result)) (countOf (u .result)) (u .ensures),
+      recordable (a .size) (a .mode) (a .slot .now) (a .frame .now) (u .last .1 .1 .1 .0) (toldOf (u .result)) (u .ensures),
     )
 
 pub unprotect-spec : {M : Type 1} → statement M

@@ -10,7 +10,8 @@ use Rattle.slot_ordering.proofs.put_semis.Statement.{statement}
 use Rattle.slot_ordering.proofs.put_semis.Tie as tie
 
 abbrev Inv-loop : tie.InvT-loop
-Inv-loop v out₀ left₀ i₀ out left i = (i ≤ length out₀) × (length out ≡ length out₀) × (left ≡ v / 16 ^ i) × Filled (digit v) (length out₀) i out
+Inv-loop v out₀ left₀ i₀ out left i =
+    (i ≤ length out₀) × (length out ≡ length out₀) × (left ≡ v / 16 ^ i) × Filled (digit v) (length out₀) i out
 
 abbrev μ-loop : tie.MeasureT-loop
 μ-loop v out₀ left₀ i₀ out left i = length out₀ - i
@@ -24,7 +25,8 @@ loop-again : tie.Need-loop-again Inv-loop μ-loop
 loop-again c =
     let h = c .before in
     let a = h .before .args in
-    let g = semis-next (a .v) (h .loop .left) (length (a .out .now)) (h .loop .i) (h .loop .out) (h .loop .inv .2) (omega arith) (h .loop .inv .3) in
+    let g = semis-next (a .v) (h .loop .left) (length (a .out .now)) (h .loop .i) (h .loop .out) (h .loop .inv .2) (omega arith)
+    (h .loop .inv .3) in
     (omega arith, g .long, left-next (a .v) (h .loop .left) (h .loop .i) (h .loop .inv .2), g)
 
 same-length : tie.Need-same-length Inv-loop μ-loop

@@ -7,10 +7,10 @@ use Rattle.slot_ordering.proofs.swap.Statement.{statement}
 use Rattle.slot_ordering.proofs.swap.Tie as tie
 
 mul-s-2 : tie.Need-mul-s-2
-mul-s-2 c = let a = c .before .before .args in omega (arith, c .before .before .pre .2 (a .j))
+mul-s-2 c = let a = c .before .before .args in omega (arith, c .before .before .pre .below (a .j))
 
 add-s-2 : tie.Need-add-s-2
-add-s-2 c = let a = c .before .before .args in omega (arith, c .before .before .pre .2 (a .j), c .before .before .pre .2 (a .i))
+add-s-2 c = let a = c .before .before .args in omega (arith, c .before .before .pre .below (a .j), c .before .before .pre .below (a .i))
 
 returns : tie.Need-returns
 unfolding swapped

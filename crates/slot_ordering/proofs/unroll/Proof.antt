@@ -30,7 +30,8 @@ loop-again : tie.Need-loop-again Inv-loop μ-loop
 loop-again c =
     let h = c .before .before in
     let f = h .before .args .frame .now in
-    let g = unroll-next f (h .loop .out) (h .loop .k) (getD f (length f - 1 - h .loop .k) 0) (omega arith) (c .shared-slice-known .given (length f - 1 - h .loop .k) .fits) refl (h .loop .inv .2) in
+    let g = unroll-next f (h .loop .out) (h .loop .k) (getD f (length f - 1 - h .loop .k) 0) (omega arith)
+    (c .shared-slice-known .given (length f - 1 - h .loop .k) .fits) refl (h .loop .inv .2) in
     (omega arith, g .long, g)
 
 same-length : tie.Need-same-length Inv-loop μ-loop

@@ -1,6 +1,5 @@
 -- `slot_sizes::conceal_size` meets its contract. The invariant of its loop stands at the head. Assumes nothing.
 use Rattle.slot_sizes.proofs.SizeSteps.{block-none, block-next, block-last}
-use Rattle.slot_laws.proofs.Sizes.{conceal-few}
 use Rattle.slot_laws.specs.Sizes.{block, words, wordLength, concealWords}
 use native.Mathlib.Omega.{arith}
 use mathlib.Core.Path.{_≡_}
@@ -10,49 +9,39 @@ use Rattle.slot_sizes.proofs.conceal_size.Statement.{statement}
 use Rattle.slot_sizes.proofs.conceal_size.Tie as tie
 
 abbrev Inv-loop : tie.InvT-loop
-Inv-loop size mode count n sum₀ k₀ sum k = (k ≤ n) × (sum ≤ 15 * k) × (sum ≡ block size mode k)
+Inv-loop size mode count n checks sum₀ k₀ sum k = (k ≤ n) × (sum ≤ 15 * k) × (sum ≡ block size mode k)
 
 abbrev μ-loop : tie.MeasureT-loop
-μ-loop size mode count n sum₀ k₀ sum k = n - k
+μ-loop size mode count n checks sum₀ k₀ sum k = n - k
 
 loop-holds : tie.Need-loop-holds Inv-loop μ-loop
-loop-holds c = let a = c .before .before .args in (omega arith, omega arith, block-none (a .size) (a .mode))
-
-sub-word-length : tie.Need-sub-word-length Inv-loop μ-loop
-sub-word-length c = let a = c .before .before .before .before .args in let f = conceal-few (a .size) (a .mode) (omega arith) in omega arith
-
-sub-word-length-2 : tie.Need-sub-word-length-2 Inv-loop μ-loop
-sub-word-length-2 c = let a = c .before .before .before .before .args in let f = conceal-few (a .size) (a .mode) (omega arith) in omega arith
-
-word-length-requires : tie.Need-word-length-requires Inv-loop μ-loop
-word-length-requires c κs = let a = c .before .before .before .before .args in let f = conceal-few (a .size) (a .mode) (omega arith) in omega arith
-
-sub-sum-2 : tie.Need-sub-sum-2 Inv-loop μ-loop
-sub-sum-2 c = omega arith
-
-add-sum : tie.Need-add-sum Inv-loop μ-loop
-add-sum c = let a = c .before .before .before .before .before .args in let f = conceal-few (a .size) (a .mode) (omega arith) in omega arith
+loop-holds c = let a = c .before .before .before .args in (omega arith, omega arith, block-none (a .size) (a .mode))
 
 loop-again : tie.Need-loop-again Inv-loop μ-loop
 loop-again c =
     let h = c .before .before in
-    let a = h .before .before .before .args in
-    let e = h .before .before .word-count .ensures .0 in
-    let w : c .word-length .result ≡ wordLength (a .size) (words (a .size) - 1 - h .loop .k) = rw e at (c .word-length .ensures .0) in
-    (omega arith, omega arith, block-next (a .size) (a .mode) (h .loop .k) (c .word-length .result) (h .loop .sum) w (h .loop .inv .2))
+    let a = h .before .before .before .before .args in
+    let d = h .before .distance in
+    let e = h .before .before .before .word-count .ensures .0 in
+    let l = c .word-length in
+    let w : l .result ≡ wordLength (a .size) (words (a .size) - 1 - h .loop .k) = rw e at (l .ensures .0) in (
+      omega arith,
+      omega arith,
+      block-next (a .size) (a .mode) (h .loop .k) (l .result) (d .result) (h .loop .sum) (d .ensures .is) w (h .loop .inv .2),
+    )
 
 returns : tie.Need-returns Inv-loop μ-loop
 returns c =
     let h = c .before in
-    let a = h .before .before .before .args in
+    let a = h .before .before .before .before .args in
     let e : h .loop .k ≡ concealWords (a .size) (a .mode) = omega arith in
     let s : h .loop .sum ≡ block (a .size) (a .mode) (concealWords (a .size) (a .mode)) = rw e at (h .loop .inv .2) in
-    block-last (a .size) (a .mode) (h .loop .sum) (h .before .before .before .pre) s
+    block-last (a .size) (a .mode) (h .loop .sum) (h .before .before .before .before .pre) s
 
 pub conceal-size-spec : {M : Type 1} → statement M
 conceal-size-spec =
     tie.close
     (tie.spec
-    Inv-loop μ-loop (λ c κs. search needs) (λ c κs. search needs) loop-holds sub-word-length sub-word-length-2
-    word-length-requires (λ c. search needs) (λ c. search needs) sub-sum-2 add-sum (λ c. search needs)
-    (λ c. search needs) loop-again returns)
+    Inv-loop μ-loop (λ c κs. search needs) (λ c κs. search needs) (λ c κs. search needs) (λ c. search needs)
+    loop-holds (λ c. search needs) (λ c. search needs) (λ c κs. search needs) (λ c. search needs)
+    (λ c. search needs) (λ c. search needs) (λ c. search needs) loop-again returns)

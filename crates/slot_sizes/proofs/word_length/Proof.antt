@@ -17,13 +17,15 @@ sub-result-2 c = let w = words-thirteen (c .args .size) (omega arith) in omega a
 add-result : tie.Need-add-result
 add-result c =
     let a = c .args in
-    let w = word-length-is (a .size) (a .count) (a .i) ((2 * a .size - a .i - 1) / a .count + 1) (omega arith) (omega arith) (omega arith) refl in
+    let v = (2 * a .size - a .i - 1) / a .count + 1 in
+    let w = word-length-is (a .size) (a .count) (a .i) v (omega arith) (omega arith) (omega arith) refl in
     omega (arith, w .2)
 
 returns : tie.Need-returns
 returns c =
     let a = c .args in
-    word-length-is (a .size) (a .count) (a .i) ((2 * a .size - a .i - 1) / a .count + 1) (omega arith) (omega arith) (omega arith) refl
+    let v = (2 * a .size - a .i - 1) / a .count + 1 in
+    word-length-is (a .size) (a .count) (a .i) v (omega arith) (omega arith) (omega arith) refl
 
 pub word-length-spec : {M : Type 1} → statement M
 word-length-spec =

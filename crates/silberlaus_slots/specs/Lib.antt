@@ -1,0 +1,2 @@
+-- What C's struct of an answer tells.
+pub mod Told
