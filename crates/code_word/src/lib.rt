@@ -15,6 +15,18 @@ pub enum Making {
     Unsuitable,
 }
 
+impl Making {
+    // Document 01's number.
+    pub fn number(self) -> u8
+        ensures { λ r. ⌜ r ≡ making.numberOf self ⌝ }
+    {
+        match self {
+            Making::Made => 0,
+            Making::Unsuitable => 1,
+        }
+    }
+}
+
 // What correcting a word found: the count of changed semi-octets, or no valid word near enough.
 pub enum Correction {
     Corrected(u8),
@@ -22,10 +34,35 @@ pub enum Correction {
     Unsuitable,
 }
 
+impl Correction {
+    // Document 01's number.
+    pub fn number(self) -> u8
+        ensures { λ r. ⌜ r ≡ numberOf self ⌝ }
+    {
+        match self {
+            Correction::Corrected(_) => 0,
+            Correction::None => 3,
+            Correction::Unsuitable => 1,
+        }
+    }
+}
+
 // Whether each of many words has its answer.
 pub enum Answers {
     Given,
     Unsuitable,
+}
+
+impl Answers {
+    // Document 01's number.
+    pub fn number(self) -> u8
+        ensures { λ r. ⌜ r ≡ batchNumberOf self ⌝ }
+    {
+        match self {
+            Answers::Given => 0,
+            Answers::Unsuitable => 1,
+        }
+    }
 }
 
 // The word's check semi-octets in front of its data (A.43 to A.45), in mode 2, 3 or 4.

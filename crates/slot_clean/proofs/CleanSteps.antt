@@ -33,7 +33,8 @@ use Rattle.slot_laws.proofs.RoomSteps.{WordPart, new-data, new-word, same-words
 
 -- ---- a word's check semi-octets and data
 
-length-data : (size mode i : ℕ) (places : List ℕ) → InRange size mode → i < words size → length (dataFrom size mode places i) ≡ dataLength size mode i
+length-data : (size mode i : ℕ) (places : List ℕ) → InRange size mode → i < words size
+    → length (dataFrom size mode places i) ≡ dataLength size mode i
 length-data size mode i places range inside =
     let f = checks-fit size mode i range inside in
     length-drop (distance mode - 1) (wordFrom size mode places i)
@@ -85,13 +86,15 @@ no-bits a b e =
     (omega arith, omega arith)
 
 -- a digit that is the last check semi-octet still to be compared
-with-checks-step : (k r : ℕ) (w : List ℕ) → 0 < k → k ≤ length w → getD w (k - 1) 0 ≡ r % 16 → withChecks k r (drop k w) ≡ withChecks (k - 1) (r / 16) (drop (k - 1) w)
+with-checks-step : (k r : ℕ) (w : List ℕ) → 0 < k → k ≤ length w → getD w (k - 1) 0 ≡ r % 16
+    → withChecks k r (drop k w) ≡ withChecks (k - 1) (r / 16) (drop (k - 1) w)
 unfolding withChecks
 with-checks-step zero r w p h e = absurd (omega arith)
 with-checks-step (suc k) r w p h e =
     let same : suc k - 1 ≡ k = omega arith in
     let d : getD w k 0 ≡ r % 16 = rw same at e in
-    rw same (ap (λ (l : List ℕ). withChecks k (r / 16) l) (ap (λ (x : ℕ). x ∷ drop (suc k) w) (sym d) ∙ sym (drop-cons w k 0 (omega arith))))
+    rw same (ap (λ (l : List ℕ). withChecks k (r / 16) l)
+        (ap (λ (x : ℕ). x ∷ drop (suc k) w) (sym d) ∙ sym (drop-cons w k 0 (omega arith))))
 
 -- as far as place k the check semi-octets are the digits, where no bit was found
 abbrev pub Compared : ℕ → ℕ → List ℕ → ℕ → ℕ → ℕ → Type 0
@@ -100,14 +103,16 @@ Compared n r w k rest bits = bits ≡ 0 → withChecks n r [] ≡ withChecks k r
 pub compared-first : (n r : ℕ) (w : List ℕ) → length w ≡ n → Compared n r w n r 0
 compared-first n r w l e = ap (λ (x : List ℕ). withChecks n r x) (sym (drop-of-length-le w {i = n} (omega arith)))
 
-pub compared-next : (n r : ℕ) (w : List ℕ) (k rest bits x : ℕ) → length w ≡ n → k ≤ n → 0 < k → x ≡ getD w (k - 1) 0 → Compared n r w k rest bits
+pub compared-next : (n r : ℕ) (w : List ℕ) (k rest bits x : ℕ) → length w ≡ n → k ≤ n → 0 < k → x ≡ getD w (k - 1) 0
+    → Compared n r w k rest bits
     → Compared n r w (k - 1) (rest / 16) (bitOr bits (bitXor x (rest % 16)))
 unfolding sum
 compared-next n r w k rest bits x l h p e c z =
     let b = no-bits bits (bitXor x (rest % 16)) z in
     c (b .0) ∙ with-checks-step k rest w p (omega arith) (sym e ∙ sum-same x (rest % 16) (b .1))
 
-pub compared-last : (n r : ℕ) (w : List ℕ) (k rest bits : ℕ) → k ≡ 0 → Compared n r w k rest bits → eqb bits 0 ≡ true → w ≡ withChecks n r []
+pub compared-last : (n r : ℕ) (w : List ℕ) (k rest bits : ℕ) → k ≡ 0 → Compared n r w k rest bits → eqb bits 0 ≡ true
+    → w ≡ withChecks n r []
 unfolding withChecks
 compared-last n r w k rest bits e c z = sym (c (eqb-true bits 0 z) ∙ ap (λ (m : ℕ). withChecks m rest (drop m w)) e)
 
@@ -142,7 +147,8 @@ module _ (places : List ℕ) {size mode i at n e : ℕ} {old last : List ℕ} (p
   taken-long = ap (λ (x : List ℕ). length x) taken ∙ length-data size mode i places (part .range) (part .inside)
 
   taken-below : Below 16 last
-  taken-below = rw taken (below-drop 16 (distance mode - 1) (wordFrom size mode places i) (words-from size mode places small .below i (part .inside)))
+  taken-below = rw taken (below-drop 16 (distance mode - 1) (wordFrom size mode places i)
+      (words-from size mode places small .below i (part .inside)))
 
   pub clean-data : Data size mode (putMid at (e - at) old last)
   clean-data = new-data part last taken-long taken-below
@@ -152,7 +158,8 @@ module _ (places : List ℕ) {size mode i at n e : ℕ} {old last : List ℕ} (p
   unfolding codeWord
   clean-next a c j l = go (eqb j i) refl
     where
-      go : (b : Bool) → eqb j i ≡ b → coded (distance mode) (dataWord size mode (putMid at (e - at) old last) j) ≡ wordFrom size mode places j
+      go : (b : Bool) → eqb j i ≡ b
+          → coded (distance mode) (dataWord size mode (putMid at (e - at) old last) j) ≡ wordFrom size mode places j
       go true t = rw (eqb-true j i t) (ap (coded (distance mode)) (new-word part last taken-long taken-below) ∙ sym c)
       go false t =
           let d : (j ≡ i → ⊥) = eqb-false j i t in

@@ -24,7 +24,8 @@ use Rattle.slot_laws.specs.Semi.{pack}
 use Rattle.slot_laws.specs.Words.{piece, dataWord, signatureRow, signature, placeOf, wordOf, numberIn, slotFrom}
 use Rattle.slot_laws.specs.Order.{Data}
 use Rattle.slot_laws.specs.Slot.{codeWord, slotWith}
-use Rattle.slot_interleaving.specs.Inner.{HasPlace, AtWord, WithRows, Spanned, DataSpanned, ChecksSpanned, Scattered, WordScattered, Placed}
+use Rattle.slot_interleaving.specs.Inner.{HasPlace, AtWord, WithRows, Spanned, DataSpanned, ChecksSpanned, Scattered, WordScattered,
+    Placed}
 use Rattle.slot_laws.proofs.Sizes.{place-in, length-high, checks-fit}
 use Rattle.slot_laws.proofs.Semi.{pack-same, semi-octets-of, below-of}
 use Rattle.slot_laws.proofs.Places.{AllWords, place-lt, place-word, place-number, place-back, word-lt, number-lt, slot-lt}
@@ -64,7 +65,8 @@ added-row x y z e = ap (bitXor x) e
 
 -- ---- a part copied
 
-pub copy-is : (from : List ℕ) (at n k : ℕ) (out : List ℕ) → at + n ≤ length from → n ≤ k → Filled (λ j. getD from (at + j) 0) n k out → out ≡ take n (drop at from)
+pub copy-is : (from : List ℕ) (at n k : ℕ) (out : List ℕ) → at + n ≤ length from → n ≤ k → Filled (λ j. getD from (at + j) 0) n k out
+    → out ≡ take n (drop at from)
 copy-is from at n k out h l f =
     let d = length-drop at from in
     filled-last (λ j. getD from (at + j) 0) n k out f l
@@ -160,7 +162,8 @@ module _ {size mode i lo hi m x p : ℕ} {f : ℕ → ℕ} {row old new : List �
       span-set word s (omega arith) is-place put-is
       (omega arith, omega arith) (λ k b c d. (omega arith, omega arith)) (omega arith, omega arith) (omega arith)
 
-  pub span-down : m + 1 ≡ lo → lo ≤ hi → hi ≤ wordLength size i → Spanned size (signature mode) i f m hi old (set new p (bitXor x (getD row m 0)))
+  pub span-down : m + 1 ≡ lo → lo ≤ hi → hi ≤ wordLength size i
+      → Spanned size (signature mode) i f m hi old (set new p (bitXor x (getD row m 0)))
   span-down e a h =
       span-set word s (omega arith) is-place put-is
       (omega arith, omega arith) (λ k b c d. (omega arith, omega arith)) (omega arith, omega arith) h
@@ -178,7 +181,8 @@ span-both size g i n checks message w old mid new e c l a b = record {
     at : (k : ℕ) → k < length w → (t : Bool) → ltb k n ≡ t → getD new (placeOf size i k) 0 ≡ sum (getD w k 0) (g i k)
     at k h true t =
         let q : k < n = ltb-true k n t in
-        b .mine k (omega arith) q ∙ ap (λ (x : ℕ). sum x (g i k)) (sym (ap (λ (x : List ℕ). getD x k 0) e ∙ List·getD-append checks message 0 k (omega arith)))
+        b .mine k (omega arith) q ∙ ap (λ (x : ℕ). sum x (g i k))
+            (sym (ap (λ (x : List ℕ). getD x k 0) e ∙ List·getD-append checks message 0 k (omega arith)))
     at k h false t =
         let q : n ≤ k = ltb-false k n t in
         let s : k ≡ length checks + (k - n) = omega arith in
@@ -190,7 +194,8 @@ span-both size g i n checks message w old mid new e c l a b = record {
 pub placed-first : {size : ℕ} {g : ℕ → ℕ → ℕ} {w : ℕ → List ℕ} {places : List ℕ} → length places ≡ 800 → Placed size g w 0 places
 placed-first e = record { long = e; stands = λ p h l. absurd (omega arith) }
 
-module _ {size n : ℕ} {g : ℕ → ℕ → ℕ} {w : ℕ → List ℕ} {old : List ℕ} (from : 40 ≤ size) (all : AllWords size w) (h : Placed size g w n old) where
+module _ {size n : ℕ} {g : ℕ → ℕ → ℕ} {w : ℕ → List ℕ} {old : List ℕ} (from : 40 ≤ size) (all : AllWords size w) (h : Placed size g w n old)
+    where
   step-stands : (new : List ℕ) → n < words size → Scattered size g n (w n) old new
       → (p : ℕ) → p < 2 * size → wordOf size p < n + 1 → (b : Bool) → eqb (wordOf size p) n ≡ b
       → getD new p 0 ≡ sum (getD (w (wordOf size p)) (numberIn size p) 0) (g (wordOf size p) (numberIn size p))
@@ -228,7 +233,8 @@ pack-is f n k slot h s = filled-last (λ j. f (2 * j) + 16 * f (2 * j + 1)) n k 
 module _ (mode : ℕ) (message : List ℕ) (from : 2 ≤ mode) (to : mode ≤ 4) (short : distance mode - 1 + length message ≤ 15)
     (small : Below 16 message) where
   -- the check semi-octets summed up over the data, in front of them, are the code word
-  pub summed-word : (rows : List ℕ) (r : ℕ) → rows ≡ checkRows (distance mode - 1) → r ≡ summed rows (λ k. getD message k 0) (length message)
+  pub summed-word : (rows : List ℕ) (r : ℕ) → rows ≡ checkRows (distance mode - 1)
+      → r ≡ summed rows (λ k. getD message k 0) (length message)
       → coded (distance mode) message ≡ withChecks (distance mode - 1) r [] ++ message
   summed-word rows r e d =
       sym (summed-coded (distance mode) message (omega arith) (omega arith) (semi-octets-of message small))
@@ -272,7 +278,8 @@ module _ {size mode i at n e : ℕ} {message : List ℕ} (part : WordPart size m
   part-scattered old new s = rw part-is at s
 
 -- all words at their places, packed, are the slot
-pub written : {size mode n : ℕ} {message places slot : List ℕ} (lent : List ℕ) → InRange size mode → Data size mode message → length lent ≡ size
+pub written : {size mode n : ℕ} {message places slot : List ℕ} (lent : List ℕ) → InRange size mode → Data size mode message
+    → length lent ≡ size
     → Placed size (signature mode) (codeWord size mode message) n places → words size ≤ n → slot ≡ pack (λ p. getD places p 0) (length lent)
     → slot ≡ slotWith size mode message
 unfolding slotWith

@@ -125,7 +125,8 @@ module _ {size mode i at n e : ℕ} {places all : List ℕ} (room : WordRoom siz
       let l = room .arrived .long in
       length-take-le (e - at) (drop at all) (omega arith) ∙ omega arith
 
-  pub arrived-one : (last : List ℕ) → last ≡ wordFrom size mode places i → ArrivedTo size mode places (i + 1) e (putMid at (e - at) all last)
+  pub arrived-one : (last : List ℕ) → last ≡ wordFrom size mode places i
+      → ArrivedTo size mode places (i + 1) e (putMid at (e - at) all last)
   unfolding joined
   arrived-one last is =
       let k : length last ≡ wordLength size i = ap (λ (x : List ℕ). length x) is ∙ length-from size mode places i in
@@ -136,12 +137,14 @@ module _ {size mode i at n e : ℕ} {places all : List ℕ} (room : WordRoom siz
         long = same-len-mid at (e - at) all last (k ∙ sym arrives-room) ∙ l;
         front =
             ap (λ (x : ℕ). take x (putMid at (e - at) all last)) (room .end)
-            ∙ two-in-front at n (take at all) last (drop (e - at) (drop at all)) (length-take-le at all (omega arith)) (k ∙ sym (room .long))
+            ∙ two-in-front at n (take at all) last (drop (e - at) (drop at all)) (length-take-le at all (omega arith))
+                (k ∙ sym (room .long))
             ∙ ap₂ (λ (x y : List ℕ). x ++ y) (room .arrived .front) is
             ∙ ap (joined (wordFrom size mode places)) (sym (add-one i));
       }
 
-pub arrived-all : (size mode i at : ℕ) (places all : List ℕ) → InRange size mode → Below 16 places → i ≡ words size → ArrivedTo size mode places i at all
+pub arrived-all : (size mode i at : ℕ) (places all : List ℕ) → InRange size mode → Below 16 places → i ≡ words size
+    → ArrivedTo size mode places i at all
     → AllArrived size mode places all
 arrived-all size mode i at places all r b e k =
     let w = words-from size mode places b in
@@ -187,7 +190,8 @@ module _ (size mode : ℕ) (places old room : List ℕ) (range : InRange size mo
   each-answered new counts (suc (suc n)) c = absurd c
 
   module _ (new counts : List ℕ) (corrected : AllCorrected mode old room new counts) where
-    each-corrected : (i : ℕ) → i < words size → WordCorrected mode (wordFrom size mode places i) (piece (wordLength size) new i) (getD counts i 0)
+    each-corrected : (i : ℕ) → i < words size → WordCorrected mode (wordFrom size mode places i) (piece (wordLength size) new i)
+        (getD counts i 0)
     each-corrected i l =
         let m = corrected .as-many ∙ some in
         let a = word-at size i (length counts) old (range .size-from) l (arrived .long) m ∙ arrived .each i l in
@@ -195,7 +199,8 @@ module _ (size mode : ℕ) (places old room : List ℕ) (range : InRange size mo
         rw (a, b) at (corrected .each i (omega (arith, m)))
 
     corrected-below : (i : ℕ) → i < words size → (b : Bool) → ltb (getD counts i 0) mode ≡ b → Below 16 (piece (wordLength size) new i)
-    corrected-below i l true e = below-of (piece (wordLength size) new i) (each-corrected i l .found (ltb-true (getD counts i 0) mode e) .semi-octets)
+    corrected-below i l true e = below-of (piece (wordLength size) new i)
+        (each-corrected i l .found (ltb-true (getD counts i 0) mode e) .semi-octets)
     corrected-below i l false e =
         let k = each-corrected i l .kept (ltb-false (getD counts i 0) mode e) ∙ sym (arrived .each i l) in
         rw k (below-piece 16 (wordLength size) old i (omega arith) (arrived .below))
@@ -211,7 +216,8 @@ module _ (size mode : ℕ) (places old room : List ℕ) (range : InRange size mo
         long = l;
         below =
             subst (λ (x : List ℕ). Below 16 x) (sym j)
-            (below-joined 16 (piece (wordLength size) new) (words size) (omega arith) (λ i k. corrected-below new counts a i k (ltb (getD counts i 0) mode) refl));
+            (below-joined 16 (piece (wordLength size) new) (words size) (omega arith)
+                (λ i k. corrected-below new counts a i k (ltb (getD counts i 0) mode) refl));
         many = a .as-many ∙ some;
         each = λ i k. each-corrected new counts a i k;
       }
@@ -270,7 +276,8 @@ module _ {size mode i at n e from d : ℕ} {old all : List ℕ} (part : WordPart
     below-last : Below 16 last
     below-last = rw last-is (below-drop 16 (distance mode - 1) word (below-piece 16 (wordLength size) all i (omega arith) (whole .below)))
 
-    pub gathered-next : {counts : List ℕ} {sum count : ℕ} → GatheredTo size mode all counts old i sum → count ≡ getD counts i 0 → count < mode
+    pub gathered-next : {counts : List ℕ} {sum count : ℕ} → GatheredTo size mode all counts old i sum → count ≡ getD counts i 0
+        → count < mode
         → GatheredTo size mode all counts (putMid at (e - at) old last) (i + 1) (sum + count)
     gathered-next {counts} {sum} {count} g c l = record {
       given = new-data part last last-long below-last;
@@ -324,13 +331,15 @@ each-of : (size mode : ℕ) (slot places all counts : List ℕ) → InRange size
     → length slot ≡ size → places ≡ unpacked slot
     → (j : ℕ) → j < words size → WordCorrected mode (wordIn size mode slot j) (piece (wordLength size) all j) (getD counts j 0)
 each-of size mode slot places all counts r a e p j l =
-    subst (λ (w : List ℕ). WordCorrected mode w (piece (wordLength size) all j) (getD counts j 0)) (word-from size mode slot places j (r .size-from) e p) (a .each j l)
+    subst (λ (w : List ℕ). WordCorrected mode w (piece (wordLength size) all j) (getD counts j 0))
+        (word-from size mode slot places j (r .size-from) e p) (a .each j l)
 
 pub repaired : (size mode : ℕ) (places all counts message : List ℕ) (r : Outcome) → InRange size mode → Answered size mode places all counts
     → IsGathered size mode all counts message r → IsRepairFrom size mode places message r
 repaired size mode places all counts message (Repaired n) r a g slot e p =
     let each = each-of size mode slot places all counts r a e p in
-    let near : (j : ℕ) → j < words size → Near mode (wordIn size mode slot j) (piece (wordLength size) all j) = λ j l. each j l .found (g .few j l) in
+    let near : (j : ℕ) → j < words size → Near mode (wordIn size mode slot j) (piece (wordLength size) all j) =
+    λ j l. each j l .found (g .few j l) in
     let code : (j : ℕ) → j < words size → codeWord size mode message j ≡ piece (wordLength size) all j =
     λ j l. code-of size mode j slot message (piece (wordLength size) all j) r l (near j l) (g .each j l) in
     record {

@@ -33,21 +33,24 @@ arrived-last size mode i n k places w e l f =
 -- ---- all words corrected
 
 -- the slot with the data that were corrected is the corrected one, and the count is that of its changes
-module _ (size mode : ℕ) (slot message : List ℕ) (count : ℕ) (range : InRange size mode) (corrected : MendedTo size mode slot message (words size) count) where
+module _ (size mode : ℕ) (slot message : List ℕ) (count : ℕ) (range : InRange size mode)
+    (corrected : MendedTo size mode slot message (words size) count) where
   pub corrected-slot : Corrected size mode slot (slotWith size mode message)
   corrected-slot = record {
     bytes = bytes-with size mode message range (corrected .given);
     near = λ i l. rw (word-slot size mode message range (corrected .given) i l) (corrected .near i l);
   }
 
-  changed-words : changes size slot (slotWith size mode message) ≡ total (λ j. apart (wordIn size mode slot j) (wordIn size mode (slotWith size mode message) j)) (words size)
+  changed-words : changes size slot (slotWith size mode message)
+      ≡ total (λ j. apart (wordIn size mode slot j) (wordIn size mode (slotWith size mode message) j)) (words size)
   unfolding wordIn
   changed-words = changes-words size (signature mode) slot (slotWith size mode message) (range .size-from)
 
   pub count-changes : count ≡ changes size slot (slotWith size mode message)
   count-changes =
       corrected .counted
-      ∙ total-same (λ j. apart (wordIn size mode slot j) (codeWord size mode message j)) (λ j. apart (wordIn size mode slot j) (wordIn size mode (slotWith size mode message) j)) (words size)
+      ∙ total-same (λ j. apart (wordIn size mode slot j) (codeWord size mode message j))
+          (λ j. apart (wordIn size mode slot j) (wordIn size mode (slotWith size mode message) j)) (words size)
       (λ j l. ap (apart (wordIn size mode slot j)) (sym (word-slot size mode message range (corrected .given) j l)))
       ∙ sym changed-words
 
@@ -64,7 +67,8 @@ same-apart : (v w : List ℕ) → v ≡ w → apart v w ≡ 0
 same-apart v w e = let h = apart-front 0 v w e in omega arith
 
 -- a slot of clean words is its own correction
-pub clean-slot : (size mode : ℕ) (slot places message : List ℕ) → InRange size mode → length slot ≡ size → places ≡ unpacked slot → Data size mode message
+pub clean-slot : (size mode : ℕ) (slot places message : List ℕ) → InRange size mode → length slot ≡ size → places ≡ unpacked slot
+    → Data size mode message
     → AllClean size mode places message (words size) → MendedTo size mode slot message (words size) 0
 clean-slot size mode slot places message r l p d a = record {
   given = d;

@@ -77,13 +77,15 @@ same-length : tie.Need-same-length Inv-loop μ-loop
 same-length c =
     let l = lent (c .before .before) in
     let s = begin (l .before .before) in
-    clean-data (s .args .places .now) (part l) (s .pre .0 .below) (c .before .before .before .read-clean-word .ensures .0) .long ∙ sym (s .pre .1 .long)
+    clean-data (s .args .places .now) (part l) (s .pre .0 .below) (c .before .before .before .read-clean-word .ensures .0) .long
+        ∙ sym (s .pre .1 .long)
 
 returns : tie.Need-returns Inv-loop μ-loop
 returns c =
     let l = lent (c .before .before) in
     let s = begin (l .before .before) in
-    (clean-data (s .args .places .now) (part l) (s .pre .0 .below) (c .before .before .before .read-clean-word .ensures .0), λ e. absurd (true≢false (sym e)))
+    (clean-data (s .args .places .now) (part l) (s .pre .0 .below) (c .before .before .before .read-clean-word .ensures .0),
+     λ e. absurd (true≢false (sym e)))
 
 loop-again : tie.Need-loop-again Inv-loop μ-loop
 loop-again c =
@@ -94,7 +96,8 @@ loop-again c =
       omega (arith, l .before .loop-test .taken),
       next-start (part l),
       clean-data (s .args .places .now) (part l) (s .pre .0 .below) (m .ensures .0),
-      clean-next (s .args .places .now) (part l) (s .pre .0 .below) (m .ensures .0) (h .loop .inv .3) (m .ensures .1 (not-false (m .result) (c .if1 .left))),
+      clean-next (s .args .places .now) (part l) (s .pre .0 .below) (m .ensures .0) (h .loop .inv .3)
+          (m .ensures .1 (not-false (m .result) (c .if1 .left))),
     )
 
 same-length-2 : tie.Need-same-length-2 Inv-loop μ-loop
@@ -103,7 +106,8 @@ same-length-2 c = c .before .loop .inv .2 .long ∙ sym (begin (c .before) .pre 
 returns-2 : tie.Need-returns-2 Inv-loop μ-loop
 returns-2 c =
     let h = c .before in
-    (h .loop .inv .2, λ e j l. h .loop .inv .3 j (omega (arith, l, h .loop .inv .0, h .before .before .before .word-count .ensures .0, c .loop-test .left)))
+    (h .loop .inv .2,
+     λ e j l. h .loop .inv .3 j (omega (arith, l, h .loop .inv .0, h .before .before .before .word-count .ensures .0, c .loop-test .left)))
 
 pub read-clean-spec : {M : Type 1} → statement M
 read-clean-spec =

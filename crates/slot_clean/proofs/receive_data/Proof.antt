@@ -60,8 +60,10 @@ loop-again c =
     let s = begin h in
     let x = data-at (s .pre .0) (h .before .distance .ensures) (in-data i) (c .before .before .before .place .ensures .0) in (
       omega arith,
-      filled-next (wanted s) (length (s .args .w .now)) (h .loop .k) (h .loop .w) _ (h .loop .inv .1) (omega (arith, i .loop-test .taken, h .loop .inv .1 .long)) x,
-      summed-next (s .args .rows .now) (wanted s) (h .loop .k) _ (h .loop .r) (c .with-data .result) x (h .loop .inv .2) (c .with-data .ensures),
+      filled-next (wanted s) (length (s .args .w .now)) (h .loop .k) (h .loop .w) _ (h .loop .inv .1)
+          (omega (arith, i .loop-test .taken, h .loop .inv .1 .long)) x,
+      summed-next (s .args .rows .now) (wanted s) (h .loop .k) _ (h .loop .r) (c .with-data .result) x (h .loop .inv .2)
+          (c .with-data .ensures),
     )
 
 returns : tie.Need-returns Inv-loop μ-loop

@@ -7,7 +7,8 @@ use Rattle.slot_interleaving.proofs.place.Statement.{statement}
 use Rattle.slot_interleaving.proofs.place.Tie as tie
 
 below : (c : tie.Start) → c .args .count * c .args .k + c .args .i < 2 * c .args .size
-below c = let a = c .args in place-below (a .size) (a .count) (a .i) (a .k) (c .pre .size-from) (c .pre .count-is) (c .pre .word-below) (c .pre .in-word)
+below c = let a = c .args in place-below (a .size) (a .count) (a .i) (a .k) (c .pre .size-from) (c .pre .count-is) (c .pre .word-below)
+    (c .pre .in-word)
 
 mul-result-2 : tie.Need-mul-result-2
 mul-result-2 c = let b = below c in omega arith

@@ -52,7 +52,8 @@ loop-again c =
     let e : h .loop .k ≡ h .before .distance .result - 1 + h .loop .k - (distance (a .mode) - 1) = omega arith in
     let w = in-word (c .before .before .before .before) in (
       omega (arith, c .before .before .before .before .loop-test .taken),
-      summed-next (a .rows .now) (λ j. getD (a .message .now) j 0) (h .loop .k) _ (h .loop .r) _ refl (h .loop .inv .1) (c .before .before .with-data .ensures),
+      summed-next (a .rows .now) (λ j. getD (a .message .now) j 0) (h .loop .k) _ (h .loop .r) _ refl (h .loop .inv .1)
+          (c .before .before .with-data .ensures),
       span-up (s .pre .0) (h .loop .inv .2) (c .place .ensures .0) (ap (λ (x : ℕ). getD (a .message .now) x 0) e)
           (omega arith) (omega arith) (omega arith) (omega arith),
     )

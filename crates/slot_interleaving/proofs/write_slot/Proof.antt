@@ -10,7 +10,8 @@ use Rattle.slot_laws.specs.Slot.{codeWord}
 use Rattle.slot_interleaving.specs.Inner.{Placed}
 use Rattle.slot_laws.proofs.Slot.{all-words, signature-lt}
 use Rattle.slot_laws.proofs.RoomSteps.{WordPart, start-first, next-start, before-end, end-few}
-use Rattle.slot_interleaving.proofs.PlaceSteps.{placed-first, placed-next, placed-below, part-long, part-below, part-scattered, written}
+use Rattle.slot_interleaving.proofs.PlaceSteps.{placed-first, placed-next, placed-below, part-long, part-below, part-scattered,
+    written}
 use Rattle.slot_interleaving.proofs.write_slot.Statement.{statement}
 use Rattle.slot_interleaving.proofs.write_slot.Tie as tie
 
@@ -75,7 +76,8 @@ loop-again c =
     let a = begin h .args in (
       omega (arith, c .before .before .before .before .before .before .loop-test .taken),
       next-start p,
-      placed-next (p .range .size-from) (all-words (a .size) (a .mode) (a .message .now) (p .range) (p .given)) (h .loop .inv .2) (p .inside)
+      placed-next (p .range .size-from) (all-words (a .size) (a .mode) (a .message .now) (p .range) (p .given)) (h .loop .inv .2)
+          (p .inside)
           (part-scattered p (h .loop .places) (m .last .1 .1 .1 .1 .1 .0) (m .ensures)),
     )
 
@@ -107,7 +109,8 @@ returns : tie.Need-returns Inv-loop μ-loop
 returns c =
     let o = c .before .before .before .before .before in
     let s = begin (o .before) in
-    written (s .args .slot .now) (s .pre .0) (s .pre .1) (s .pre .2) (o .before .loop .inv .2) (all-placed o) (c .before .before .pack-bytes .ensures)
+    written (s .args .slot .now) (s .pre .0) (s .pre .1) (s .pre .2) (o .before .loop .inv .2) (all-placed o)
+        (c .before .before .pack-bytes .ensures)
 
 pub write-slot-spec : {M : Type 1} → statement M
 write-slot-spec =

@@ -14,12 +14,15 @@ use Rattle.slot_repair.proofs.correct_slot.Statement.{statement}
 use Rattle.slot_repair.proofs.correct_slot.Tie as tie
 
 slice-aggregate-unpack : tie.Need-slice-aggregate-unpack
-slice-aggregate-unpack c = let s = c .before .before .before in sym (length-take-le (2 * s .args .size) blanks (omega (arith, s .pre .range .size-to)))
+slice-aggregate-unpack c =
+    let s = c .before .before .before in
+    sym (length-take-le (2 * s .args .size) blanks (omega (arith, s .pre .range .size-to)))
 
 unpack-requires : tie.Need-unpack-requires
 unpack-requires c κs =
     let s = c .before .before .before in
-    (omega (arith, s .pre .range .size-to, s .pre .long), length-take-le (2 * s .args .size) blanks (omega (arith, s .pre .range .size-to)) ∙ omega (arith, s .pre .long))
+    (omega (arith, s .pre .range .size-to, s .pre .long),
+     length-take-le (2 * s .args .size) blanks (omega (arith, s .pre .range .size-to)) ∙ omega (arith, s .pre .long))
 
 abbrev begin : tie.After-unpack → tie.Start
 begin c = c .before .before .before .before

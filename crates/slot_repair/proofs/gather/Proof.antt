@@ -101,7 +101,8 @@ add-sum c =
     let l = c .before .before .before .before in
     let h = turn l in
     let r = begin h .pre .0 .range in
-    record { fits = omega (arith, words-high (begin h .args .size), r .size-to, part l .inside, h .loop .inv .1, r .mode-to, few (l .before)) }
+    let w = words-high (begin h .args .size) in
+    record { fits = omega (arith, r .size-to, part l .inside, h .loop .inv .1, r .mode-to, few (l .before)) }
 
 add-from : tie.Need-add-from Inv-loop μ-loop
 add-from c =

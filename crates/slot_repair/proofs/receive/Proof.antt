@@ -48,7 +48,8 @@ loop-again c =
     let s = begin h in (
       omega arith,
       filled-next (wanted s) (length (s .args .w .now)) (h .loop .k) (h .loop .w) _ (h .loop .inv .1)
-          (omega (arith, i .loop-test .taken, h .loop .inv .1 .long)) (from-at (s .pre .0) (in-word i) (c .before .before .place .ensures .0)),
+          (omega (arith, i .loop-test .taken, h .loop .inv .1 .long))
+          (from-at (s .pre .0) (in-word i) (c .before .before .place .ensures .0)),
     )
 
 returns : tie.Need-returns Inv-loop μ-loop
@@ -56,7 +57,8 @@ returns c =
     let h = c .before in
     let s = begin h in
     let a = s .args in
-    arrived-last (a .size) (a .mode) (a .i) (length (a .w .now)) (h .loop .k) (a .places .now) (h .loop .w) (s .pre .1) (omega arith) (h .loop .inv .1)
+    arrived-last (a .size) (a .mode) (a .i) (length (a .w .now)) (h .loop .k) (a .places .now) (h .loop .w) (s .pre .1) (omega arith)
+        (h .loop .inv .1)
 
 pub receive-spec : {M : Type 1} → statement M
 receive-spec =
