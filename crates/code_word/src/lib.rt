@@ -45,6 +45,17 @@ impl Correction {
             Correction::Unsuitable => 1,
         }
     }
+
+    // The count of changed semi-octets, 0 where nothing was corrected.
+    pub fn count(self) -> u8
+        ensures { λ r. ⌜ r ≡ countOf self ⌝ }
+    {
+        match self {
+            Correction::Corrected(n) => n,
+            Correction::None => 0,
+            Correction::Unsuitable => 0,
+        }
+    }
 }
 
 // Whether each of many words has its answer.

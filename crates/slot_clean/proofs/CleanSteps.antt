@@ -94,7 +94,7 @@ with-checks-step (suc k) r w p h e =
     let same : suc k - 1 ≡ k = omega arith in
     let d : getD w k 0 ≡ r % 16 = rw same at e in
     rw same (ap (λ (l : List ℕ). withChecks k (r / 16) l)
-        (ap (λ (x : ℕ). x ∷ drop (suc k) w) (sym d) ∙ sym (drop-cons w k 0 (omega arith))))
+    (ap (λ (x : ℕ). x ∷ drop (suc k) w) (sym d) ∙ sym (drop-cons w k 0 (omega arith))))
 
 -- as far as place k the check semi-octets are the digits, where no bit was found
 abbrev pub Compared : ℕ → ℕ → List ℕ → ℕ → ℕ → ℕ → Type 0

@@ -69,7 +69,7 @@ pub word-from : (size mode : ℕ) (slot places : List ℕ) (i : ℕ) → 40 ≤ 
 unfolding unpacked wordFrom wordIn received
 word-from size mode slot places i h e p =
     tab-same (λ k. sum (getD places (placeOf size i k) 0) (signature mode i k))
-        (λ k. sum (semi slot (placeOf size i k)) (signature mode i k))
+    (λ k. sum (semi slot (placeOf size i k)) (signature mode i k))
     (wordLength size i)
     (λ k m.
     let q = place-is size (words size) i k refl in

@@ -24,8 +24,17 @@ use Rattle.slot_laws.specs.Semi.{pack}
 use Rattle.slot_laws.specs.Words.{piece, dataWord, signatureRow, signature, placeOf, wordOf, numberIn, slotFrom}
 use Rattle.slot_laws.specs.Order.{Data}
 use Rattle.slot_laws.specs.Slot.{codeWord, slotWith}
-use Rattle.slot_interleaving.specs.Inner.{HasPlace, AtWord, WithRows, Spanned, DataSpanned, ChecksSpanned, Scattered, WordScattered,
-    Placed}
+use Rattle.slot_interleaving.specs.Inner.{
+  HasPlace,
+  AtWord,
+  WithRows,
+  Spanned,
+  DataSpanned,
+  ChecksSpanned,
+  Scattered,
+  WordScattered,
+  Placed,
+}
 use Rattle.slot_laws.proofs.Sizes.{place-in, length-high, checks-fit}
 use Rattle.slot_laws.proofs.Semi.{pack-same, semi-octets-of, below-of}
 use Rattle.slot_laws.proofs.Places.{AllWords, place-lt, place-word, place-number, place-back, word-lt, number-lt, slot-lt}
@@ -182,7 +191,7 @@ span-both size g i n checks message w old mid new e c l a b = record {
     at k h true t =
         let q : k < n = ltb-true k n t in
         b .mine k (omega arith) q ∙ ap (λ (x : ℕ). sum x (g i k))
-            (sym (ap (λ (x : List ℕ). getD x k 0) e ∙ List·getD-append checks message 0 k (omega arith)))
+        (sym (ap (λ (x : List ℕ). getD x k 0) e ∙ List·getD-append checks message 0 k (omega arith)))
     at k h false t =
         let q : n ≤ k = ltb-false k n t in
         let s : k ≡ length checks + (k - n) = omega arith in
@@ -195,32 +204,32 @@ pub placed-first : {size : ℕ} {g : ℕ → ℕ → ℕ} {w : ℕ → List ℕ}
 placed-first e = record { long = e; stands = λ p h l. absurd (omega arith) }
 
 module _ {size n : ℕ} {g : ℕ → ℕ → ℕ} {w : ℕ → List ℕ} {old : List ℕ} (from : 40 ≤ size) (all : AllWords size w) (h : Placed size g w n old)
-    where
-  step-stands : (new : List ℕ) → n < words size → Scattered size g n (w n) old new
-      → (p : ℕ) → p < 2 * size → wordOf size p < n + 1 → (b : Bool) → eqb (wordOf size p) n ≡ b
-      → getD new p 0 ≡ sum (getD (w (wordOf size p)) (numberIn size p) 0) (g (wordOf size p) (numberIn size p))
-  step-stands new l s p q m true t =
-      let e : wordOf size p ≡ n = eqb-true (wordOf size p) n t in
-      let k : numberIn size p < length (w n) = rw (all .long n l) (rw e at (number-lt size p from q)) in
-      let b : placeOf size n (numberIn size p) ≡ p = rw e at (place-back size p q) in
-      rw e (ap (λ (x : ℕ). getD new x 0) (sym b) ∙ s .mine (numberIn size p) k)
-  step-stands new l s p q m false t =
-      let d : (wordOf size p ≡ n → ⊥) = eqb-false (wordOf size p) n t in
-      s .others p q d ∙ h .stands p q (omega arith)
+  where
+    step-stands : (new : List ℕ) → n < words size → Scattered size g n (w n) old new
+        → (p : ℕ) → p < 2 * size → wordOf size p < n + 1 → (b : Bool) → eqb (wordOf size p) n ≡ b
+        → getD new p 0 ≡ sum (getD (w (wordOf size p)) (numberIn size p) 0) (g (wordOf size p) (numberIn size p))
+    step-stands new l s p q m true t =
+        let e : wordOf size p ≡ n = eqb-true (wordOf size p) n t in
+        let k : numberIn size p < length (w n) = rw (all .long n l) (rw e at (number-lt size p from q)) in
+        let b : placeOf size n (numberIn size p) ≡ p = rw e at (place-back size p q) in
+        rw e (ap (λ (x : ℕ). getD new x 0) (sym b) ∙ s .mine (numberIn size p) k)
+    step-stands new l s p q m false t =
+        let d : (wordOf size p ≡ n → ⊥) = eqb-false (wordOf size p) n t in
+        s .others p q d ∙ h .stands p q (omega arith)
 
-  pub placed-next : {new : List ℕ} → n < words size → Scattered size g n (w n) old new → Placed size g w (n + 1) new
-  placed-next {new} l s = record {
-    long = s .long ∙ h .long;
-    stands = λ p q m. step-stands new l s p q m (eqb (wordOf size p) n) refl;
-  }
+    pub placed-next : {new : List ℕ} → n < words size → Scattered size g n (w n) old new → Placed size g w (n + 1) new
+    placed-next {new} l s = record {
+      long = s .long ∙ h .long;
+      stands = λ p q m. step-stands new l s p q m (eqb (wordOf size p) n) refl;
+    }
 
-  pub placed-below : ((i k : ℕ) → g i k < 16) → words size ≤ n → (p : ℕ) → p < 2 * size → getD old p 0 < 16
-  placed-below small l p q = rw (h .stands p q (omega (arith, word-lt size p from))) (slot-lt size g from small w all p q)
+    pub placed-below : ((i k : ℕ) → g i k < 16) → words size ≤ n → (p : ℕ) → p < 2 * size → getD old p 0 < 16
+    placed-below small l p q = rw (h .stands p q (omega (arith, word-lt size p from))) (slot-lt size g from small w all p q)
 
-  placed-last : (slot : List ℕ) → words size ≤ n → slot ≡ pack (λ p. getD old p 0) size → slot ≡ slotFrom size g w
-  unfolding slotFrom
-  placed-last slot l e =
-      e ∙ pack-same (λ p. getD old p 0) _ size (λ p q. h .stands p q (omega (arith, word-lt size p from)))
+    placed-last : (slot : List ℕ) → words size ≤ n → slot ≡ pack (λ p. getD old p 0) size → slot ≡ slotFrom size g w
+    unfolding slotFrom
+    placed-last slot l e =
+        e ∙ pack-same (λ p. getD old p 0) _ size (λ p q. h .stands p q (omega (arith, word-lt size p from)))
 
 -- ---- two places to a byte
 

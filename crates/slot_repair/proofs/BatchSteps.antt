@@ -138,7 +138,7 @@ module _ {size mode i at n e : ℕ} {places all : List ℕ} (room : WordRoom siz
         front =
             ap (λ (x : ℕ). take x (putMid at (e - at) all last)) (room .end)
             ∙ two-in-front at n (take at all) last (drop (e - at) (drop at all)) (length-take-le at all (omega arith))
-                (k ∙ sym (room .long))
+            (k ∙ sym (room .long))
             ∙ ap₂ (λ (x y : List ℕ). x ++ y) (room .arrived .front) is
             ∙ ap (joined (wordFrom size mode places)) (sym (add-one i));
       }
@@ -217,7 +217,7 @@ module _ (size mode : ℕ) (places old room : List ℕ) (range : InRange size mo
         below =
             subst (λ (x : List ℕ). Below 16 x) (sym j)
             (below-joined 16 (piece (wordLength size) new) (words size) (omega arith)
-                (λ i k. corrected-below new counts a i k (ltb (getD counts i 0) mode) refl));
+            (λ i k. corrected-below new counts a i k (ltb (getD counts i 0) mode) refl));
         many = a .as-many ∙ some;
         each = λ i k. each-corrected new counts a i k;
       }
@@ -332,7 +332,7 @@ each-of : (size mode : ℕ) (slot places all counts : List ℕ) → InRange size
     → (j : ℕ) → j < words size → WordCorrected mode (wordIn size mode slot j) (piece (wordLength size) all j) (getD counts j 0)
 each-of size mode slot places all counts r a e p j l =
     subst (λ (w : List ℕ). WordCorrected mode w (piece (wordLength size) all j) (getD counts j 0))
-        (word-from size mode slot places j (r .size-from) e p) (a .each j l)
+    (word-from size mode slot places j (r .size-from) e p) (a .each j l)
 
 pub repaired : (size mode : ℕ) (places all counts message : List ℕ) (r : Outcome) → InRange size mode → Answered size mode places all counts
     → IsGathered size mode all counts message r → IsRepairFrom size mode places message r

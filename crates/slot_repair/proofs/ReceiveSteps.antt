@@ -50,7 +50,7 @@ module _ (size mode : ℕ) (slot message : List ℕ) (count : ℕ) (range : InRa
   count-changes =
       corrected .counted
       ∙ total-same (λ j. apart (wordIn size mode slot j) (codeWord size mode message j))
-          (λ j. apart (wordIn size mode slot j) (wordIn size mode (slotWith size mode message) j)) (words size)
+      (λ j. apart (wordIn size mode slot j) (wordIn size mode (slotWith size mode message) j)) (words size)
       (λ j l. ap (apart (wordIn size mode slot j)) (sym (word-slot size mode message range (corrected .given) j l)))
       ∙ sym changed-words
 

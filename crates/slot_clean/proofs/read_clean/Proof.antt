@@ -78,14 +78,15 @@ same-length c =
     let l = lent (c .before .before) in
     let s = begin (l .before .before) in
     clean-data (s .args .places .now) (part l) (s .pre .0 .below) (c .before .before .before .read-clean-word .ensures .0) .long
-        ∙ sym (s .pre .1 .long)
+    ∙ sym (s .pre .1 .long)
 
 returns : tie.Need-returns Inv-loop μ-loop
 returns c =
     let l = lent (c .before .before) in
-    let s = begin (l .before .before) in
-    (clean-data (s .args .places .now) (part l) (s .pre .0 .below) (c .before .before .before .read-clean-word .ensures .0),
-     λ e. absurd (true≢false (sym e)))
+    let s = begin (l .before .before) in (
+      clean-data (s .args .places .now) (part l) (s .pre .0 .below) (c .before .before .before .read-clean-word .ensures .0),
+      λ e. absurd (true≢false (sym e)),
+    )
 
 loop-again : tie.Need-loop-again Inv-loop μ-loop
 loop-again c =
@@ -105,9 +106,10 @@ same-length-2 c = c .before .loop .inv .2 .long ∙ sym (begin (c .before) .pre 
 
 returns-2 : tie.Need-returns-2 Inv-loop μ-loop
 returns-2 c =
-    let h = c .before in
-    (h .loop .inv .2,
-     λ e j l. h .loop .inv .3 j (omega (arith, l, h .loop .inv .0, h .before .before .before .word-count .ensures .0, c .loop-test .left)))
+    let h = c .before in (
+      h .loop .inv .2,
+      λ e j l. h .loop .inv .3 j (omega (arith, l, h .loop .inv .0, h .before .before .before .word-count .ensures .0, c .loop-test .left)),
+    )
 
 pub read-clean-spec : {M : Type 1} → statement M
 read-clean-spec =

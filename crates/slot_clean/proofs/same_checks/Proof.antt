@@ -22,8 +22,11 @@ loop-holds c =
     let s = c .before .before .before .before in
     let a = s .args in
     let d = c .distance .ensures .is in
-    rw d (omega arith, compared-first (distance (a .mode) - 1) (a .r) (checksFrom (a .size) (a .mode) (a .places .now) (a .i))
-        (length-checks (s .pre)))
+    rw d (
+      omega arith,
+      compared-first (distance (a .mode) - 1) (a .r) (checksFrom (a .size) (a .mode) (a .places .now) (a .i))
+          (length-checks (s .pre)),
+    )
 
 abbrev begin : tie.At-loop Inv-loop μ-loop → tie.Start Inv-loop μ-loop
 begin h = h .before .before .before .before .before

@@ -31,9 +31,11 @@ loop-again : tie.Need-loop-again Inv-loop μ-loop
 loop-again c =
     let h = c .before .before in
     let a = h .before .args in
-    let b = c .shared-slice-known .given (h .loop .j) .fits in
-    (omega arith, unpacked-next (a .slot .now) (length (a .places .now)) (h .loop .j) (h .loop .places) (h .loop .inv .1)
-        (omega (arith, h .before .pre .1)) b)
+    let b = c .shared-slice-known .given (h .loop .j) .fits in (
+      omega arith,
+      unpacked-next (a .slot .now) (length (a .places .now)) (h .loop .j) (h .loop .places) (h .loop .inv .1)
+          (omega (arith, h .before .pre .1)) b,
+    )
 
 returns : tie.Need-returns Inv-loop μ-loop
 returns c =

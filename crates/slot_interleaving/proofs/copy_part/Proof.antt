@@ -16,8 +16,11 @@ abbrev μ-loop : tie.MeasureT-loop
 μ-loop from at out₀ k₀ out k = length out₀ - k
 
 loop-holds : tie.Need-loop-holds Inv-loop μ-loop
-loop-holds c = let a = c .args in (omega arith, filled-first (λ (j : ℕ). getD (a .from .now) (a .at + j) 0) (length (a .out .now))
-    (a .out .now) refl)
+loop-holds c = let a = c .args in (
+  omega arith,
+  filled-first (λ (j : ℕ). getD (a .from .now) (a .at + j) 0) (length (a .out .now))
+      (a .out .now) refl,
+)
 
 loop-again : tie.Need-loop-again Inv-loop μ-loop
 loop-again c =

@@ -38,9 +38,11 @@ add-slot-2 c =
 loop-again : tie.Need-loop-again Inv-loop μ-loop
 loop-again c =
     let h = c .before .before .before in
-    let a = h .before .args in
-    (omega arith, filled-next (byteOf (a .places .now)) (length (a .slot .now)) (h .loop .j) (h .loop .slot) _ (h .loop .inv .1)
-        (omega arith) refl)
+    let a = h .before .args in (
+      omega arith,
+      filled-next (byteOf (a .places .now)) (length (a .slot .now)) (h .loop .j) (h .loop .slot) _ (h .loop .inv .1)
+          (omega arith) refl,
+    )
 
 returns : tie.Need-returns Inv-loop μ-loop
 returns c =

@@ -10,8 +10,15 @@ use Rattle.slot_laws.specs.Slot.{codeWord}
 use Rattle.slot_interleaving.specs.Inner.{Placed}
 use Rattle.slot_laws.proofs.Slot.{all-words, signature-lt}
 use Rattle.slot_laws.proofs.RoomSteps.{WordPart, start-first, next-start, before-end, end-few}
-use Rattle.slot_interleaving.proofs.PlaceSteps.{placed-first, placed-next, placed-below, part-long, part-below, part-scattered,
-    written}
+use Rattle.slot_interleaving.proofs.PlaceSteps.{
+  placed-first,
+  placed-next,
+  placed-below,
+  part-long,
+  part-below,
+  part-scattered,
+  written,
+}
 use Rattle.slot_interleaving.proofs.write_slot.Statement.{statement}
 use Rattle.slot_interleaving.proofs.write_slot.Tie as tie
 
@@ -110,7 +117,7 @@ returns c =
     let o = c .before .before .before .before .before in
     let s = begin (o .before) in
     written (s .args .slot .now) (s .pre .0) (s .pre .1) (s .pre .2) (o .before .loop .inv .2) (all-placed o)
-        (c .before .before .pack-bytes .ensures)
+    (c .before .before .pack-bytes .ensures)
 
 pub write-slot-spec : {M : Type 1} → statement M
 write-slot-spec =

@@ -20,9 +20,10 @@ slice-aggregate-unpack c =
 
 unpack-requires : tie.Need-unpack-requires
 unpack-requires c κs =
-    let s = c .before .before .before in
-    (omega (arith, s .pre .range .size-to, s .pre .long),
-     length-take-le (2 * s .args .size) blanks (omega (arith, s .pre .range .size-to)) ∙ omega (arith, s .pre .long))
+    let s = c .before .before .before in (
+      omega (arith, s .pre .range .size-to, s .pre .long),
+      length-take-le (2 * s .args .size) blanks (omega (arith, s .pre .range .size-to)) ∙ omega (arith, s .pre .long),
+    )
 
 abbrev begin : tie.After-unpack → tie.Start
 begin c = c .before .before .before .before

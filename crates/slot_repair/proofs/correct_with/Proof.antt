@@ -20,15 +20,16 @@ each c =
     let r = received c .receive-all in
     let e = c .correct-each in
     answered (a .size) (a .mode) (a .places .now) (r .last .1 .1 .1 .0) (a .counts .now) (s .pre .0 .range) (r .ensures)
-        (s .pre .1 .0 .many)
+    (s .pre .1 .0 .many)
     (e .last .0) (e .last .1 .1 .0) (batchNumberOf (e .result)) (e .ensures)
 
 gather-requires : tie.Need-gather-requires
 gather-requires c κs =
     let e = c .before .before .before .before .before .before .before in
-    let s = begin (received e) in
-    (record { range = s .pre .0 .range; long = each e .long; below = each e .below },
-     record { many = each e .many; given = s .pre .1 .0 .given })
+    let s = begin (received e) in (
+      record { range = s .pre .0 .range; long = each e .long; below = each e .below },
+      record { many = each e .many; given = s .pre .1 .0 .given },
+    )
 
 returns : tie.Need-returns
 returns c =

@@ -58,7 +58,7 @@ returns c =
     let s = begin h in
     let a = s .args in
     arrived-last (a .size) (a .mode) (a .i) (length (a .w .now)) (h .loop .k) (a .places .now) (h .loop .w) (s .pre .1) (omega arith)
-        (h .loop .inv .1)
+    (h .loop .inv .1)
 
 pub receive-spec : {M : Type 1} → statement M
 receive-spec =
