@@ -37,7 +37,13 @@ cast-most c = record { fits = omega (arith, fit c .mode-to) }
 correct-word-requires : tie.Need-correct-word-requires
 correct-word-requires c κs =
     let d = c .before .before .before in
-    (c .before .before .table .ensures, omega (arith, fit d .mode-from), omega (arith, fit d .mode-to), fit d .most, semi d)
+    record {
+      table = c .before .before .table .ensures;
+      most-from = omega (arith, fit d .mode-from);
+      most-to = omega (arith, fit d .mode-to);
+      short = fit d .most;
+      semi-octets = semi d;
+    }
 
 returns-3 : tie.Need-returns-3
 returns-3 c =

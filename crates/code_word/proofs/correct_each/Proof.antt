@@ -66,11 +66,12 @@ correct-words-requires c κs =
     let a = v .before .before .before .before .args in
     let l = v .before .if1 .left in
     let f = told-yes _ (v .fits2 .result) (v .fits2 .ensures) (g .before .if2 .left) in (
-      c .before .before .before .table .ensures,
-      omega (arith, f .mode-from),
-      omega (arith, f .mode-to),
-      dealt-out (a .mode) (a .words .now) (a .counts .now) (omega arith) f (told-yes _ (g .fits-longer .result) (g .fits-longer .ensures) (d .before .before .before .if3 .left)),
-      told-yes _ (d .before .semi-octets .result) (d .before .semi-octets .ensures) (d .if4 .left),
+      record { table = c .before .before .before .table .ensures; most-from = omega (arith, f .mode-from); most-to = omega (arith, f .mode-to) },
+      (
+        dealt-out (a .mode) (a .words .now) (a .counts .now) (omega arith) f
+            (told-yes _ (g .fits-longer .result) (g .fits-longer .ensures) (d .before .before .before .if3 .left)),
+        told-yes _ (d .before .semi-octets .result) (d .before .semi-octets .ensures) (d .if4 .left),
+      ),
     )
 
 returns-5 : tie.Need-returns-5

@@ -24,7 +24,7 @@ abbrev μ-loop : tie.MeasureT-loop
 -- the length of the word is that of word i
 long-of : (c : lts.After-dealt (dealt-reads.Asked, dealt-reads.Learnt, correct-word-reads.Asked, correct-word-reads.Learnt) reads.Pre reads.Post Inv-loop μ-loop)
     → c .dealt .result ≡ lengthAt (length (c .before .before .before .before .before .args .words .now)) (length (c .before .before .before .before .before .args .counts .now)) (c .before .before .loop .i)
-long-of c = dealt-is (c .before .before .loop .i) (c .before .before .before .before .before .pre .3) (c .dealt .ensures)
+long-of c = dealt-is (c .before .before .loop .i) (c .before .before .before .before .before .pre .1 .0) (c .dealt .ensures)
 
 -- the end of the word lies in the words
 inside : (c : lts.After-dealt (dealt-reads.Asked, dealt-reads.Learnt, correct-word-reads.Asked, correct-word-reads.Learnt) reads.Pre reads.Post Inv-loop μ-loop)
@@ -35,7 +35,7 @@ loop-holds : tie.Need-loop-holds Inv-loop μ-loop
 loop-holds c = (search needs, batch-first _ (c .before .before .args .words .now) (c .before .before .args .counts .now))
 
 dealt-requires : tie.Need-dealt-requires Inv-loop μ-loop
-dealt-requires c κs = dealt-short _ _ _ _ (c .before .before .before .before .pre .3)
+dealt-requires c κs = dealt-short _ _ _ _ (c .before .before .before .before .pre .1 .0)
 
 add-end : tie.Need-add-end Inv-loop μ-loop
 add-end c = record { fits = omega (arith, inside c) }
@@ -51,13 +51,14 @@ correct-word-requires c κs =
     let p = s .pre in
     let w = h .loop .words in
     let e : h .loop .at + d .dealt .result - h .loop .at ≡ d .dealt .result = omega arith in
-    let i-in : h .loop .i < length (s .args .counts .now) = omega (arith, h .loop .inv .1 .as-many) in (
-      p .0,
-      p .1,
-      p .2,
-      rw e (omega (arith, p .3 .short (h .loop .i) i-in, long-of d, length-take (d .dealt .result) (drop (h .loop .at) w))),
-      rw e (batch-semi _ _ _ _ _ _ _ _ (h .loop .inv .1) (d .dealt .result) (long-of d) i-in (p .4)),
-    )
+    let i-in : h .loop .i < length (s .args .counts .now) = omega (arith, h .loop .inv .1 .as-many) in
+    record {
+      table = p .0 .table;
+      most-from = p .0 .most-from;
+      most-to = p .0 .most-to;
+      short = rw e (omega (arith, p .1 .0 .short (h .loop .i) i-in, long-of d, length-take (d .dealt .result) (drop (h .loop .at) w)));
+      semi-octets = rw e (batch-semi _ _ _ _ _ _ _ _ (h .loop .inv .1) (d .dealt .result) (long-of d) i-in (p .1 .1));
+    }
 
 slice-write-counts : tie.Need-slice-write-counts Inv-loop μ-loop
 slice-write-counts c =

@@ -4,6 +4,7 @@ use Prim.Native.Nat.{suc}
 use Prim.Native.Nat.{_≤_, _<_, _-_}
 use native.Mathlib.Omega.{arith}
 use borrow.Author.Needs.{needs}
+use Rattle.code_word_laws.proofs.Packed.{six-elements}
 use Rattle.code_word_laws.proofs.Turns.{Held, held-first, held-next, held-last}
 use Rattle.code_word_corrector.proofs.errors.Statement.{statement}
 use Rattle.code_word_corrector.proofs.errors.Tie as tie
@@ -19,9 +20,9 @@ loop-holds c =
     let a = c .before .before .before .args in
     let p = c .before .before .before .pre in (
       search needs,
-      p .6,
-      p .5,
-      p .4,
+      p .third,
+      p .second,
+      p .first,
       held-first (a .r1) (a .r2) (a .r3) (a .s1) (a .s2) (a .u) (c .before .before .row .ensures) (c .before .row2 .ensures) (c .row3 .ensures),
     )
 
@@ -29,12 +30,12 @@ tripled-requires : tie.Need-tripled-requires Inv-loop μ-loop
 tripled-requires c κs =
     let h = c .before .loop .inv in
     let p = c .before .before .before .before .before .pre in
-    (p .0, p .2, h .2, p .3, h .3, p .1, h .1)
+    (p .table, six-elements (p .locator .1 .0) (h .2) (p .locator .1 .1 .0) (h .3) (p .locator .0) (h .1))
 
 row-requires-4 : tie.Need-row-requires-4 Inv-loop μ-loop
 row-requires-4 c κs =
     let p = c .before .before .before .before .before .before .pre in
-    (p .0, omega (arith, c .before .before .loop .inv .0), c .tripled .ensures .1)
+    (p .table, (omega (arith, c .before .before .loop .inv .0), c .tripled .ensures .1))
 
 loop-again : tie.Need-loop-again Inv-loop μ-loop
 loop-again c =
