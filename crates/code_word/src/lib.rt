@@ -132,7 +132,8 @@ pub fn correct(word: &mut [u8], mode: u32) -> Correction
 // Corrects as many words as there are counts: they stand one after the other, as even in length as can be, the longer first.
 // The table is made once for all of them.
 pub fn correct_each(words: &mut [u8], mode: u32, counts: &mut [u8]) -> Answers
-    ensures { λ r. ⌜ CorrectsEach mode (now (words .entry)) (now (counts .entry)) (now (words .exit)) (now (counts .exit)) (batchNumberOf r) ⌝ }
+    ensures { λ r. ⌜ CorrectsEach mode (now (words .entry)) (now (counts .entry)) (now (words .exit)) (now (counts .exit))
+        (batchNumberOf r) ⌝ }
 {
     if counts.len() == 0 {
         return Answers::Unsuitable;

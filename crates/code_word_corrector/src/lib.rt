@@ -106,7 +106,8 @@ fn correct_one(t: &[u32; 512], word: &mut [u8], s: u64, most: u8) -> bool
     false
 }
 
-// Corrects one word with a lent table: the count of changed semi-octets, or t + 1 where no valid word is near, and then the word is as it was lent.
+// Corrects one word with a lent table: the count of changed semi-octets, or t + 1 where no valid word is near, and then the word is as it
+// was lent.
 pub fn correct_word(t: &[u32; 512], word: &mut [u8], most: u8) -> u8
     requires { ⌜ WordFor (now t) (now word) most ⌝ }
     ensures { λ r. ⌜ WordCorrected (most + 1) (now (word .entry)) (now (word .exit)) r ⌝ }

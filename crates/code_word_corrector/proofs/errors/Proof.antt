@@ -23,7 +23,8 @@ loop-holds c =
       p .third,
       p .second,
       p .first,
-      held-first (a .r1) (a .r2) (a .r3) (a .s1) (a .s2) (a .u) (c .before .before .row .ensures) (c .before .row2 .ensures) (c .row3 .ensures),
+      held-first (a .r1) (a .r2) (a .r3) (a .s1) (a .s2) (a .u) (c .before .before .row .ensures) (c .before .row2 .ensures)
+          (c .row3 .ensures),
     )
 
 tripled-requires : tie.Need-tripled-requires Inv-loop μ-loop
@@ -47,7 +48,8 @@ loop-again c =
       h .loop .inv .1,
       h .loop .inv .2,
       rw next
-          (held-next (a .r1) (a .r2) (a .r3) (a .s1) (a .s2) (a .u) (12 - h .loop .n) (h .loop .n) (omega arith) (omega arith) (c .before .tripled .ensures .0) (c .row4 .ensures) (h .loop .inv .4)),
+          (held-next (a .r1) (a .r2) (a .r3) (a .s1) (a .s2) (a .u) (12 - h .loop .n) (h .loop .n) (omega arith) (omega arith)
+          (c .before .tripled .ensures .0) (c .row4 .ensures) (h .loop .inv .4)),
     )
 
 returns : tie.Need-returns Inv-loop μ-loop

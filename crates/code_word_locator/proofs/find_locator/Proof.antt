@@ -24,8 +24,11 @@ minor-two-requires-3 c κs = let s = c .before .before .before in (s .pre .table
 
 tripled-requires : tie.Need-tripled-requires
 tripled-requires c κs =
-    let s = c .before .before .before .before in
-    (s .pre .table, six-elements (c .minor-two3 .ensures .1) (nibble-lt 3 (s .args .s)) (c .before .minor-two2 .ensures .1) (nibble-lt 4 (s .args .s)) (c .before .before .minor-two .ensures .1) (nibble-lt 5 (s .args .s)))
+    let s = c .before .before .before .before in (
+      s .pre .table,
+      six-elements (c .minor-two3 .ensures .1) (nibble-lt 3 (s .args .s)) (c .before .minor-two2 .ensures .1)
+          (nibble-lt 4 (s .args .s)) (c .before .before .minor-two .ensures .1) (nibble-lt 5 (s .args .s)),
+    )
 
 -- the minor that is tested
 is-minor : (c : tie.After-tripled) → let s = c .before .before .before .before .before .args .s in
@@ -36,8 +39,10 @@ is-minor m =
 
 locator-three-requires : tie.Need-locator-three-requires
 locator-three-requires c κs =
-    let m = c .before in
-    (m .before .before .before .before .before .pre .table, record { below = m .tripled .ensures .1; not-zero = c .if2 .taken; is = is-minor m })
+    let m = c .before in (
+      m .before .before .before .before .before .pre .table,
+      record { below = m .tripled .ensures .1; not-zero = c .if2 .taken; is = is-minor m },
+    )
 
 returns-2 : tie.Need-returns-2
 returns-2 c =

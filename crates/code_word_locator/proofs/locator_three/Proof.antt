@@ -25,18 +25,30 @@ minor-two-requires-6 c κs = let s = c .before .before .before .before .before i
 
 tripled-requires : tie.Need-tripled-requires
 tripled-requires c κs =
-    let s = c .before .before .before .before .before .before in
-    (s .pre .0, six-elements (c .before .minor-two5 .ensures .1) (nibble-lt 3 (s .args .s)) (c .before .before .before .minor-two3 .ensures .1) (nibble-lt 4 (s .args .s)) (c .before .before .before .before .before .minor-two .ensures .1) (nibble-lt 6 (s .args .s)))
+    let s = c .before .before .before .before .before .before in (
+      s .pre .0,
+      six-elements (c .before .minor-two5 .ensures .1) (nibble-lt 3 (s .args .s))
+          (c .before .before .before .minor-two3 .ensures .1) (nibble-lt 4 (s .args .s))
+          (c .before .before .before .before .before .minor-two .ensures .1) (nibble-lt 6 (s .args .s)),
+    )
 
 tripled-requires-2 : tie.Need-tripled-requires-2
 tripled-requires-2 c κs =
-    let s = c .before .before .before .before .before .before .before in
-    (s .pre .0, six-elements (c .before .minor-two6 .ensures .1) (nibble-lt 3 (s .args .s)) (c .before .before .before .before .minor-two3 .ensures .1) (nibble-lt 5 (s .args .s)) (c .before .before .before .before .before .minor-two2 .ensures .1) (nibble-lt 6 (s .args .s)))
+    let s = c .before .before .before .before .before .before .before in (
+      s .pre .0,
+      six-elements (c .before .minor-two6 .ensures .1) (nibble-lt 3 (s .args .s))
+          (c .before .before .before .before .minor-two3 .ensures .1) (nibble-lt 5 (s .args .s))
+          (c .before .before .before .before .before .minor-two2 .ensures .1) (nibble-lt 6 (s .args .s)),
+    )
 
 tripled-requires-3 : tie.Need-tripled-requires-3
 tripled-requires-3 c κs =
-    let s = c .before .before .before .before .before .before .before .before in
-    (s .pre .0, six-elements (c .before .before .minor-two6 .ensures .1) (nibble-lt 4 (s .args .s)) (c .before .before .before .minor-two5 .ensures .1) (nibble-lt 5 (s .args .s)) (c .before .before .before .before .minor-two4 .ensures .1) (nibble-lt 6 (s .args .s)))
+    let s = c .before .before .before .before .before .before .before .before in (
+      s .pre .0,
+      six-elements (c .before .before .minor-two6 .ensures .1) (nibble-lt 4 (s .args .s))
+          (c .before .before .before .minor-two5 .ensures .1) (nibble-lt 5 (s .args .s))
+          (c .before .before .before .before .minor-two4 .ensures .1) (nibble-lt 6 (s .args .s)),
+    )
 
 inverted-requires : tie.Need-inverted-requires
 inverted-requires c κs = c .before .before .before .before .before .before .before .before .before .pre .1 .below

@@ -18,13 +18,15 @@ times-requires : tie.Need-times-requires
 times-requires c κs = (c .before .before .before .pre .0, (c .inverted .ensures .1, c .before .before .minor-two .ensures .1))
 
 times-requires-2 : tie.Need-times-requires-2
-times-requires-2 c κs = (c .before .before .before .before .pre .0, (c .before .inverted .ensures .1, c .before .before .minor-two2 .ensures .1))
+times-requires-2 c κs =
+    (c .before .before .before .before .pre .0, (c .before .inverted .ensures .1, c .before .before .minor-two2 .ensures .1))
 
 returns : tie.Need-returns
 returns c =
     let a = c .before .before .before .before .before in
     let m = a .pre .1 in
-    locator-two-done (a .args .s) (m .most-from) (m .most-to) (m .not-zero) (m .is) (m .third) (c .before .before .before .before .minor-two .ensures .0) (c .before .before .before .minor-two2 .ensures .0)
+    locator-two-done (a .args .s) (m .most-from) (m .most-to) (m .not-zero) (m .is) (m .third)
+    (c .before .before .before .before .minor-two .ensures .0) (c .before .before .before .minor-two2 .ensures .0)
     (c .before .before .inverted .ensures .0) (c .before .times .ensures) (c .times2 .ensures)
 
 pub locator-two-spec : {M : Type 1} → statement M

@@ -1,4 +1,5 @@
--- `word_calls::word_correct_each` meets its contract: that of `code_word::correct_each`, with the number in place of the enum. Assumes nothing.
+-- `word_calls::word_correct_each` meets its contract: that of `code_word::correct_each`, with the number in place of the enum.
+-- Assumes nothing.
 use borrow.Author.Needs.{needs}
 use Rattle.word_calls.proofs.word_correct_each.Statement.{statement}
 use Rattle.word_calls.proofs.word_correct_each.Tie as tie
