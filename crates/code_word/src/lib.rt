@@ -15,6 +15,18 @@ pub enum Making {
     Unsuitable,
 }
 
+impl Making {
+    // Document 01's number.
+    pub fn number(self) -> u8
+        ensures { λ r. ⌜ r ≡ making.numberOf self ⌝ }
+    {
+        match self {
+            Making::Made => 0,
+            Making::Unsuitable => 1,
+        }
+    }
+}
+
 // What correcting a word found: the count of changed semi-octets, or no valid word near enough.
 pub enum Correction {
     Corrected(u8),
@@ -22,10 +34,46 @@ pub enum Correction {
     Unsuitable,
 }
 
+impl Correction {
+    // Document 01's number.
+    pub fn number(self) -> u8
+        ensures { λ r. ⌜ r ≡ numberOf self ⌝ }
+    {
+        match self {
+            Correction::Corrected(_) => 0,
+            Correction::None => 3,
+            Correction::Unsuitable => 1,
+        }
+    }
+
+    // The count of changed semi-octets, 0 where nothing was corrected.
+    pub fn count(self) -> u8
+        ensures { λ r. ⌜ r ≡ countOf self ⌝ }
+    {
+        match self {
+            Correction::Corrected(n) => n,
+            Correction::None => 0,
+            Correction::Unsuitable => 0,
+        }
+    }
+}
+
 // Whether each of many words has its answer.
 pub enum Answers {
     Given,
     Unsuitable,
+}
+
+impl Answers {
+    // Document 01's number.
+    pub fn number(self) -> u8
+        ensures { λ r. ⌜ r ≡ batchNumberOf self ⌝ }
+    {
+        match self {
+            Answers::Given => 0,
+            Answers::Unsuitable => 1,
+        }
+    }
 }
 
 // The word's check semi-octets in front of its data (A.43 to A.45), in mode 2, 3 or 4.
@@ -84,7 +132,8 @@ pub fn correct(word: &mut [u8], mode: u32) -> Correction
 // Corrects as many words as there are counts: they stand one after the other, as even in length as can be, the longer first.
 // The table is made once for all of them.
 pub fn correct_each(words: &mut [u8], mode: u32, counts: &mut [u8]) -> Answers
-    ensures { λ r. ⌜ CorrectsEach mode (now (words .entry)) (now (counts .entry)) (now (words .exit)) (now (counts .exit)) (batchNumberOf r) ⌝ }
+    ensures { λ r. ⌜ CorrectsEach mode (now (words .entry)) (now (counts .entry)) (now (words .exit)) (now (counts .exit))
+        (batchNumberOf r) ⌝ }
 {
     if counts.len() == 0 {
         return Answers::Unsuitable;

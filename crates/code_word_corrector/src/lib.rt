@@ -1,6 +1,6 @@
-// How words are corrected. A word whose syndromes are 0 is left at once; where they are those of one error, it is taken off; else the locator
-// of `code_word_locator` gives fifteen sums, and these the errors. The word with them taken off is tested, and put back where it is not
-// valid.
+// How words are corrected. A word whose syndromes are 0 is left at once; where they are those of one error, it is taken off; else the
+// locator of `code_word_locator` gives fifteen sums, and these the errors. The word with them taken off is tested, and put back where it
+// is not valid.
 // Inner: `code_word` stands over it. It asks for the locator's table, for t from 1 to 3 and for words of at most 15 semi-octets.
 ghost use mathlib.Core.Path.{_≡_};
 ghost use Prim.Native.Nat.{_+_, _^_, _≤_, _<_};
@@ -10,7 +10,8 @@ ghost use Rattle.laws.specs.Decides.{Decides};
 ghost use Rattle.laws.specs.Tab.{pick};
 ghost use Rattle.code_word_laws.specs.Word.{SemiOctets, apart};
 ghost use Rattle.code_word_laws.specs.Correct.{WordCorrected, EachCorrected};
-ghost use Rattle.code_word_laws.specs.Corrector.{Table, Syndromes, Transformed, ErrorWord, Acceptable, Dealt, Tried, takenOff};
+ghost use Rattle.code_word_laws.specs.Corrector.{TableFor, WordFor, Started, Syndromes, Transformed, ErrorWord, Acceptable, Dealt, Tried};
+ghost use Rattle.code_word_laws.specs.Corrector.{takenOff};
 use code_word_locator::clear;
 use code_word_locator::find_locator;
 use code_word_locator::inverted;
@@ -22,7 +23,7 @@ use code_word_locator::tripled;
 
 // The error values, packed: fifteen sums by the locator, each transformed back as it is made.
 fn errors(t: &[u32; 512], r1: u8, r2: u8, r3: u8, s1: u8, s2: u8, u: u8) -> u64
-    requires { ⌜ Table (now t) × (r1 < 16) × (r2 < 16) × (r3 < 16) × (s1 < 16) × (s2 < 16) × (u < 16) ⌝ }
+    requires { ⌜ Started (now t) r1 r2 r3 s1 s2 u ⌝ }
     ensures { λ e. ⌜ Transformed r1 r2 r3 s1 s2 u e ⌝ }
 {
     let mut e = (row(t, 14, s1) ^ row(t, 13, s2)) ^ row(t, 12, u);
@@ -43,7 +44,7 @@ fn errors(t: &[u32; 512], r1: u8, r2: u8, r3: u8, s1: u8, s2: u8, u: u8) -> u64
 
 // The error word: the errors that explain the syndromes, if at most t do.
 fn error_word(t: &[u32; 512], s: u64, most: u8) -> u64
-    requires { ⌜ Table (now t) × (1 ≤ most) × (most ≤ 3) ⌝ }
+    requires { ⌜ TableFor (now t) most ⌝ }
     ensures { λ e. ⌜ ErrorWord most s e ⌝ }
 {
     let r = find_locator(t, s, most);
@@ -55,7 +56,8 @@ fn error_word(t: &[u32; 512], s: u64, most: u8) -> u64
 // Takes the errors off, and counts them.
 fn take_off(word: &mut [u8], e: u64) -> u8
     requires { ⌜ length (now word) ≤ 15 ⌝ }
-    ensures { λ r. ⌜ (now (word .exit) ≡ takenOff (now (word .entry)) e) × (r ≡ apart (now (word .entry)) (now (word .exit))) ⌝ }
+    ensures { λ r. ⌜ now (word .exit) ≡ takenOff (now (word .entry)) e ⌝ }
+    ensures { λ r. ⌜ r ≡ apart (now (word .entry)) (now (word .exit)) ⌝ }
 {
     let mut rest = e;
     let mut count: u8 = 0;
@@ -72,7 +74,7 @@ fn take_off(word: &mut [u8], e: u64) -> u8
 
 // Whether the word, with so many changes, is valid and near enough.
 fn accepted(t: &[u32; 512], word: &[u8], most: u8, count: u8) -> bool
-    requires { ⌜ Table (now t) × (1 ≤ most) × (most ≤ 3) × (length (now word) ≤ 15) × SemiOctets (now word) ⌝ }
+    requires { ⌜ WordFor (now t) (now word) most ⌝ }
     ensures { λ r. ⌜ Decides (Acceptable most count (now (word .entry))) r ⌝ }
 {
     if most < count {
@@ -83,7 +85,8 @@ fn accepted(t: &[u32; 512], word: &[u8], most: u8, count: u8) -> bool
 
 // Takes one error off, where the syndromes are those of one: its value times its place is s1, and times its place again s2.
 fn correct_one(t: &[u32; 512], word: &mut [u8], s: u64, most: u8) -> bool
-    requires { ⌜ Table (now t) × (1 ≤ most) × (most ≤ 3) × (length (now word) ≤ 15) × SemiOctets (now word) × Syndromes (now word) s ⌝ }
+    requires { ⌜ WordFor (now t) (now word) most ⌝ }
+    requires { ⌜ Syndromes (now word) s ⌝ }
     ensures { λ r. ⌜ Tried (most + 1) (now (word .entry)) (now (word .exit)) r ⌝ }
 {
     let s1 = (s / 16 % 16) as u8;
@@ -103,9 +106,10 @@ fn correct_one(t: &[u32; 512], word: &mut [u8], s: u64, most: u8) -> bool
     false
 }
 
-// Corrects one word with a lent table: the count of changed semi-octets, or t + 1 where no valid word is near, and then the word is as it was lent.
+// Corrects one word with a lent table: the count of changed semi-octets, or t + 1 where no valid word is near, and then the word is as it
+// was lent.
 pub fn correct_word(t: &[u32; 512], word: &mut [u8], most: u8) -> u8
-    requires { ⌜ Table (now t) × (1 ≤ most) × (most ≤ 3) × (length (now word) ≤ 15) × SemiOctets (now word) ⌝ }
+    requires { ⌜ WordFor (now t) (now word) most ⌝ }
     ensures { λ r. ⌜ WordCorrected (most + 1) (now (word .entry)) (now (word .exit)) r ⌝ }
 {
     let s = syndromes(t, word);
@@ -144,7 +148,9 @@ pub fn correct_words(
     most: u8,
     counts: &mut [u8],
 )
-    requires { ⌜ Table (now t) × (1 ≤ most) × (most ≤ 3) × Dealt (length (now words)) (length (now counts)) long over × SemiOctets (now words) ⌝ }
+    requires { ⌜ TableFor (now t) most ⌝ }
+    requires { ⌜ Dealt (length (now words)) (length (now counts)) long over ⌝ }
+    requires { ⌜ SemiOctets (now words) ⌝ }
     ensures { λ r. ⌜ EachCorrected (most + 1) (now (words .entry)) (now (words .exit)) (now (counts .exit)) ⌝ }
 {
     let mut at = 0;

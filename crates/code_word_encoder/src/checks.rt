@@ -1,4 +1,5 @@
-// What each data semi-octet adds to the check semi-octets of its word, for each mode: specs/Checks.antt of `code_word_laws` says what the entries are.
+// What each data semi-octet adds to the check semi-octets of its word, for each mode: specs/Checks.antt of `code_word_laws` says what the
+// entries are.
 ghost use mathlib.Core.Path.{_≡_};
 ghost use Prim.Native.Nat.{_-_, _≤_};
 ghost use Rattle.code_word_laws.specs.Word.{distance};
@@ -652,7 +653,8 @@ pub fn check_rows(mode: u32) -> [u32; 208]
 
 // LLVM lays a match of three tables down as vectors, one of four as a table for each entry: so the zeros stand apart.
 fn rows_of(mode: u32) -> [u32; 208]
-    requires { ⌜ (2 ≤ mode) × (mode ≤ 4) ⌝ }
+    requires { ⌜ 2 ≤ mode ⌝ }
+    requires { ⌜ mode ≤ 4 ⌝ }
     ensures { λ r. ⌜ r ≡ checkRows (distance mode - 1) ⌝ }
 {
     match mode {

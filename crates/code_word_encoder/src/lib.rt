@@ -72,7 +72,8 @@ const SIX: [u64; 16] = [
 
 // The table of a mode.
 pub fn rows(mode: u32) -> [u64; 16]
-    requires { ⌜ (2 ≤ mode) × (mode ≤ 4) ⌝ }
+    requires { ⌜ 2 ≤ mode ⌝ }
+    requires { ⌜ mode ≤ 4 ⌝ }
     ensures { λ r. ⌜ r ≡ feedback (distance mode - 1) ⌝ }
 {
     match mode {
@@ -92,7 +93,8 @@ fn shift(rows: &[u64; 16], r: u64, c: u8) -> u64
 
 // What the data from place n on leave, from the last semi-octet down.
 pub fn divide(rows: &[u64; 16], word: &[u8], n: usize) -> u64
-    requires { ⌜ (n ≤ length (now word)) × SemiOctets (drop n (now word)) ⌝ }
+    requires { ⌜ n ≤ length (now word) ⌝ }
+    requires { ⌜ SemiOctets (drop n (now word)) ⌝ }
     ensures { λ r. ⌜ r ≡ register (now (rows .entry)) (drop n (now (word .entry))) ⌝ }
 {
     let mut r = 0;

@@ -1,16 +1,24 @@
 -- The laws of packed semi-octets. Sums are taken digit by digit, so a whole word is added in one exclusive or.
 -- Assumes nothing.
+use mathlib.Core.List.{[], _∷_}
 use mathlib.Core.Path.{_≡_, refl, ap, _∙_}
 use Prim.Native.Nat.{ℕ, zero, suc, _+_, _*_, _/_, _^_, _<_}
 use native.Mathlib.Omega.{arith}
 use native.Mathlib.Nat.{pow-suc}
 use lib.Bits.{bitXor, xor-mod, xor-shr}
 use Rattle.gf16.specs.Field.{sum}
+use Rattle.code_word_laws.specs.Word.{SemiOctets}
 use Rattle.code_word_laws.specs.Packed.{nibble, packed}
 
 pub nibble-lt : (j a : ℕ) → nibble j a < 16
 nibble-lt zero a = omega arith
 nibble-lt (suc j) a = nibble-lt j (a / 16)
+
+pub four-nibbles : (i j k l a : ℕ) → SemiOctets (nibble i a ∷ nibble j a ∷ nibble k a ∷ nibble l a ∷ [])
+four-nibbles i j k l a = (nibble-lt i a, (nibble-lt j a, (nibble-lt k a, (nibble-lt l a, tt))))
+
+pub six-elements : {a x b y c z : ℕ} → a < 16 → x < 16 → b < 16 → y < 16 → c < 16 → z < 16 → SemiOctets (a ∷ x ∷ b ∷ y ∷ c ∷ z ∷ [])
+six-elements a x b y c z = (a, (x, (b, (y, (c, (z, tt))))))
 
 pub nibble-zero : (j : ℕ) → nibble j 0 ≡ 0
 nibble-zero zero = refl

@@ -3,6 +3,7 @@
 -- the errors.
 -- Assumes nothing.
 use mathlib.Core.Path.{_≡_}
+use mathlib.Core.Logic.{_≢_}
 use mathlib.Core.Bool.{Bool, true, false}
 use mathlib.Core.List.{List, [], _∷_}
 use Prim.Native.Nat.{ℕ, zero, suc, _+_, _-_, _*_, _/_, _%_, _≤_, _<_}
@@ -25,6 +26,20 @@ pub record Table (t : List ℕ) : Type 0 where
 -- the digits of r are x times 2^(a j)
 abbrev pub Row : ℕ → ℕ → ℕ → Type 0
 Row a x r = (j : ℕ) → j < 15 → nibble j r ≡ product x (power (power 2 a) j)
+
+-- what the steps ask: the table, and 1 to 3 errors to look for
+pub record TableFor (t : List ℕ) (most : ℕ) : Type 0 where
+  pub table : Table t
+  pub most-from : 1 ≤ most
+  pub most-to : most ≤ 3
+
+-- .. in this word
+pub record WordFor (t word : List ℕ) (most : ℕ) : Type 0 where
+  pub table : Table t
+  pub most-from : 1 ≤ most
+  pub most-to : most ≤ 3
+  pub short : length word ≤ 15
+  pub semi-octets : SemiOctets word
 
 -- the digits of s are the word's values at 2^j
 abbrev pub Syndromes : List ℕ → ℕ → Type 0
@@ -66,6 +81,25 @@ ThirdMinorZero t s = 3 ≤ t → minor (nibble 1 s) (nibble 2 s) (nibble 3 s) (n
 abbrev pub SecondMinorZero : ℕ → ℕ → Type 0
 SecondMinorZero t s = 2 ≤ t → minorTwo (nibble 1 s) (nibble 2 s) (nibble 2 s) (nibble 3 s) ≡ 0
 
+pub record MinorsZero (t s : ℕ) : Type 0 where
+  pub third : ThirdMinorZero t s
+  pub second : SecondMinorZero t s
+
+-- d is the leading minor of three rows, and not 0
+pub record ThirdMinor (s d : ℕ) : Type 0 where
+  pub below : d < 16
+  pub not-zero : d ≢ 0
+  pub is : d ≡ minor (nibble 1 s) (nibble 2 s) (nibble 3 s) (nibble 4 s) (nibble 5 s)
+
+-- c is the leading minor of two rows, and not 0, and that of three is
+pub record SecondMinor (t s c : ℕ) : Type 0 where
+  pub most-from : 2 ≤ t
+  pub most-to : t ≤ 3
+  pub below : c < 16
+  pub not-zero : c ≢ 0
+  pub is : c ≡ minorTwo (nibble 1 s) (nibble 2 s) (nibble 2 s) (nibble 3 s)
+  pub third : ThirdMinorZero t s
+
 -- each value from the three before it
 abbrev pub Recurs : ℕ → ℕ → ℕ → (ℕ → ℕ) → Type 0
 Recurs r1 r2 r3 s = (n : ℕ) → s (suc (suc (suc n))) ≡ sum (sum (product r2 (s (suc n))) (product r3 (s n))) (product r1 (s (suc (suc n))))
@@ -81,6 +115,14 @@ pub record IsLocator (t s r1 r2 r3 u : ℕ) : Type 0 where
   pub third : r3 < 16
   pub start : u < 16
   pub locator : Continues t s r1 r2 r3 u
+
+-- the table, a locator, and the first three values
+pub record Started (t : List ℕ) (r1 r2 r3 s1 s2 u : ℕ) : Type 0 where
+  pub table : Table t
+  pub locator : SemiOctets (r1 ∷ r2 ∷ r3 ∷ [])
+  pub first : s1 < 16
+  pub second : s2 < 16
+  pub third : u < 16
 
 -- the sum over n = 1 .. m of s n times 2^((15 - n) k)
 abbrev pub back : (ℕ → ℕ) → ℕ → ℕ → ℕ

@@ -5,16 +5,18 @@
 // semi-octets.
 ghost use mathlib.Core.Path.{_≡_};
 ghost use mathlib.Core.Logic.{_≢_};
+ghost use mathlib.Core.List.{[], _∷_};
 ghost use Prim.Native.Nat.{_+_, _^_, _≤_, _<_};
 ghost use lib.ListN.{length};
 ghost use Rattle.laws.specs.Decides.{Decides};
 ghost use Rattle.gf16.specs.Field.{product, power, inverse};
 ghost use Rattle.code_word_laws.specs.Word.{SemiOctets};
-ghost use Rattle.code_word_laws.specs.Packed.{nibble};
-ghost use Rattle.code_word_laws.specs.Corrector.{Table, Row, Syndromes, Clear, ThirdMinorZero, SecondMinorZero, IsLocator, minorTwo, triple, minor};
+ghost use Rattle.code_word_laws.specs.Corrector.{Table, TableFor, Row, Syndromes, Clear, IsLocator, minorTwo, triple};
+ghost use Rattle.code_word_laws.specs.Corrector.{ThirdMinorZero, MinorsZero, ThirdMinor, SecondMinor};
 
 // Number 16 a + b: the digits from the lowest on are b times 2^(a j) for j = 0 .. 14, and the highest is a times b.
-// Its low half is entry 2 (16 a + b) and its high half the next: halves of 32 bits are built sixteen bytes at a time, numbers of 64 bits one by one.
+// Its low half is entry 2 (16 a + b) and its high half the next: halves of 32 bits are built sixteen bytes at a time, numbers of 64 bits
+// one by one.
 const TABLE: [u32; 512] = [
     0x00000000,
     0x00000000,
@@ -544,14 +546,17 @@ fn wide(x: u8) -> usize
 }
 
 fn long(x: u32) -> u64
-    ensures { λ r. ⌜ (r ≡ x) × (r < 4294967296) ⌝ }
+    ensures { λ r. ⌜ r ≡ x ⌝ }
+    ensures { λ r. ⌜ r < 4294967296 ⌝ }
 {
     x as u64
 }
 
 // The field's product, from the table.
 pub fn times(t: &[u32; 512], a: u8, b: u8) -> u8
-    requires { ⌜ Table (now t) × (a < 16) × (b < 16) ⌝ }
+    requires { ⌜ Table (now t) ⌝ }
+    requires { ⌜ a < 16 ⌝ }
+    requires { ⌜ b < 16 ⌝ }
     ensures { λ r. ⌜ r ≡ product a b ⌝ }
 {
     let at = wide(16 * a + b);
@@ -560,7 +565,9 @@ pub fn times(t: &[u32; 512], a: u8, b: u8) -> u8
 
 // x times 2^(a j) for each j, packed.
 pub fn row(t: &[u32; 512], a: usize, x: u8) -> u64
-    requires { ⌜ Table (now t) × (a < 15) × (x < 16) ⌝ }
+    requires { ⌜ Table (now t) ⌝ }
+    requires { ⌜ a < 15 ⌝ }
+    requires { ⌜ x < 16 ⌝ }
     ensures { λ r. ⌜ Row a x r ⌝ }
 {
     let at = 16 * a + wide(x);
@@ -569,7 +576,9 @@ pub fn row(t: &[u32; 512], a: usize, x: u8) -> u64
 
 // The word's values at 2^0 .. 2^14, packed: its syndromes are those at 2^1 .. 2^(2 t).
 pub fn syndromes(t: &[u32; 512], word: &[u8]) -> u64
-    requires { ⌜ Table (now t) × SemiOctets (now word) × (length (now word) ≤ 15) ⌝ }
+    requires { ⌜ Table (now t) ⌝ }
+    requires { ⌜ SemiOctets (now word) ⌝ }
+    requires { ⌜ length (now word) ≤ 15 ⌝ }
     ensures { λ r. ⌜ Syndromes (now (word .entry)) r ⌝ }
 {
     let mut s: u64 = 0;
@@ -583,7 +592,8 @@ pub fn syndromes(t: &[u32; 512], word: &[u8]) -> u64
 
 // The weight of the first digit past the 2 t syndromes, once they are the lowest.
 fn window(most: u8) -> u64
-    requires { ⌜ (1 ≤ most) × (most ≤ 3) ⌝ }
+    requires { ⌜ 1 ≤ most ⌝ }
+    requires { ⌜ most ≤ 3 ⌝ }
     ensures { λ r. ⌜ r ≡ 16 ^ (most + most) ⌝ }
 {
     match most {
@@ -595,7 +605,8 @@ fn window(most: u8) -> u64
 
 // Whether the 2 t syndromes are 0.
 pub fn clear(s: u64, most: u8) -> bool
-    requires { ⌜ (1 ≤ most) × (most ≤ 3) ⌝ }
+    requires { ⌜ 1 ≤ most ⌝ }
+    requires { ⌜ most ≤ 3 ⌝ }
     ensures { λ r. ⌜ Decides (Clear (most + most) s) r ⌝ }
 {
     s / 16 % window(most) == 0
@@ -603,16 +614,20 @@ pub fn clear(s: u64, most: u8) -> bool
 
 // A minor of two rows of the sums.
 fn minor_two(t: &[u32; 512], a: u8, b: u8, c: u8, d: u8) -> u8
-    requires { ⌜ Table (now t) × (a < 16) × (b < 16) × (c < 16) × (d < 16) ⌝ }
-    ensures { λ r. ⌜ (r ≡ minorTwo a b c d) × (r < 16) ⌝ }
+    requires { ⌜ Table (now t) ⌝ }
+    requires { ⌜ SemiOctets (a ∷ b ∷ c ∷ d ∷ []) ⌝ }
+    ensures { λ r. ⌜ r ≡ minorTwo a b c d ⌝ }
+    ensures { λ r. ⌜ r < 16 ⌝ }
 {
     times(t, a, d) ^ times(t, b, c)
 }
 
 // A sum of three products: a minor of three rows along its last, or a sum by the locator.
 pub fn tripled(t: &[u32; 512], a: u8, x: u8, b: u8, y: u8, c: u8, z: u8) -> u8
-    requires { ⌜ Table (now t) × (a < 16) × (x < 16) × (b < 16) × (y < 16) × (c < 16) × (z < 16) ⌝ }
-    ensures { λ r. ⌜ (r ≡ triple a x b y c z) × (r < 16) ⌝ }
+    requires { ⌜ Table (now t) ⌝ }
+    requires { ⌜ SemiOctets (a ∷ x ∷ b ∷ y ∷ c ∷ z ∷ []) ⌝ }
+    ensures { λ r. ⌜ r ≡ triple a x b y c z ⌝ }
+    ensures { λ r. ⌜ r < 16 ⌝ }
 {
     (times(t, a, x) ^ times(t, b, y)) ^ times(t, c, z)
 }
@@ -623,7 +638,8 @@ const INVERSES: [u8; 16] = [0, 1, 9, 14, 13, 11, 7, 6, 15, 2, 12, 5, 10, 4, 3, 8
 // The inverse of a field element.
 pub fn inverted(a: u8) -> u8
     requires { ⌜ a < 16 ⌝ }
-    ensures { λ r. ⌜ (r ≡ inverse a) × (r < 16) ⌝ }
+    ensures { λ r. ⌜ r ≡ inverse a ⌝ }
+    ensures { λ r. ⌜ r < 16 ⌝ }
 {
     let at = wide(a);
     INVERSES[at]
@@ -635,7 +651,8 @@ const LOGARITHMS: [u8; 16] = [0, 0, 1, 4, 2, 8, 5, 10, 3, 14, 9, 7, 6, 13, 11, 1
 // The logarithm of a field element.
 pub fn logarithm(a: u8) -> usize
     requires { ⌜ a < 16 ⌝ }
-    ensures { λ r. ⌜ (r < 15) × (a ≢ 0 → power 2 r ≡ a) ⌝ }
+    ensures { λ r. ⌜ r < 15 ⌝ }
+    ensures { λ r. ⌜ (a ≢ 0 → power 2 r ≡ a) ⌝ }
 {
     let at = wide(a);
     wide(LOGARITHMS[at])
@@ -647,7 +664,8 @@ pub struct Locator(pub u8, pub u8, pub u8, pub u8);
 
 // The locator where the leading minor d of three rows is not 0.
 fn locator_three(t: &[u32; 512], s: u64, d: u8) -> Locator
-    requires { ⌜ Table (now t) × (d < 16) × (d ≢ 0) × (d ≡ minor (nibble 1 s) (nibble 2 s) (nibble 3 s) (nibble 4 s) (nibble 5 s)) ⌝ }
+    requires { ⌜ Table (now t) ⌝ }
+    requires { ⌜ ThirdMinor s d ⌝ }
     ensures { λ r. ⌜ IsLocator 3 s (r .0) (r .1) (r .2) (r .3) ⌝ }
 {
     let s1 = (s / 16 % 16) as u8;
@@ -676,7 +694,8 @@ fn locator_three(t: &[u32; 512], s: u64, d: u8) -> Locator
 
 // The locator where the leading minor c of two rows is not 0, and that of three is.
 fn locator_two(t: &[u32; 512], s: u64, most: u8, c: u8) -> Locator
-    requires { ⌜ Table (now t) × (2 ≤ most) × (most ≤ 3) × (c < 16) × (c ≢ 0) × (c ≡ minorTwo (nibble 1 s) (nibble 2 s) (nibble 2 s) (nibble 3 s)) × ThirdMinorZero most s ⌝ }
+    requires { ⌜ Table (now t) ⌝ }
+    requires { ⌜ SecondMinor most s c ⌝ }
     ensures { λ r. ⌜ IsLocator most s (r .0) (r .1) (r .2) (r .3) ⌝ }
 {
     let s1 = (s / 16 % 16) as u8;
@@ -691,7 +710,8 @@ fn locator_two(t: &[u32; 512], s: u64, most: u8, c: u8) -> Locator
 
 // The locator of one error at most, where both leading minors are 0.
 fn locator_one(t: &[u32; 512], s: u64, most: u8) -> Locator
-    requires { ⌜ Table (now t) × (1 ≤ most) × (most ≤ 3) × ThirdMinorZero most s × SecondMinorZero most s ⌝ }
+    requires { ⌜ TableFor (now t) most ⌝ }
+    requires { ⌜ MinorsZero most s ⌝ }
     ensures { λ r. ⌜ IsLocator most s (r .0) (r .1) (r .2) (r .3) ⌝ }
 {
     let s1 = (s / 16 % 16) as u8;
@@ -706,7 +726,8 @@ fn locator_one(t: &[u32; 512], s: u64, most: u8) -> Locator
 
 // The locator of two errors at most.
 fn locator_low(t: &[u32; 512], s: u64, most: u8) -> Locator
-    requires { ⌜ Table (now t) × (1 ≤ most) × (most ≤ 3) × ThirdMinorZero most s ⌝ }
+    requires { ⌜ TableFor (now t) most ⌝ }
+    requires { ⌜ ThirdMinorZero most s ⌝ }
     ensures { λ r. ⌜ IsLocator most s (r .0) (r .1) (r .2) (r .3) ⌝ }
 {
     if most == 1 {
@@ -724,7 +745,7 @@ fn locator_low(t: &[u32; 512], s: u64, most: u8) -> Locator
 
 // The locator of at most t errors with these syndromes.
 pub fn find_locator(t: &[u32; 512], s: u64, most: u8) -> Locator
-    requires { ⌜ Table (now t) × (1 ≤ most) × (most ≤ 3) ⌝ }
+    requires { ⌜ TableFor (now t) most ⌝ }
     ensures { λ r. ⌜ IsLocator most s (r .0) (r .1) (r .2) (r .3) ⌝ }
 {
     if most < 3 {

@@ -10,11 +10,11 @@ use Rattle.laws.proofs.Tab.{length-tab, getD-tab, tab-same, below-tab}
 use Rattle.laws.proofs.Fill.{Filled, filled-next, filled-last}
 use Rattle.gf16.specs.Field.{sum}
 use Rattle.gf16.proofs.Laws.{sum-lt}
-use Rattle.slot_laws.specs.Sizes.{words, wordLength}
+use Rattle.slot_laws.specs.Sizes.{InRange, words, wordLength}
 use Rattle.slot_laws.specs.Semi.{half, semi}
 use Rattle.slot_laws.specs.Words.{signature, placeOf, received}
 use Rattle.slot_laws.specs.Slot.{wordIn}
-use Rattle.slot_clean.specs.Inner.{unpacked, wordFrom}
+use Rattle.slot_clean.specs.Inner.{SemiOctetsOf, unpacked, wordFrom}
 use Rattle.slot_laws.proofs.Semi.{semi-lt}
 use Rattle.slot_laws.proofs.Places.{AllWords}
 use Rattle.slot_laws.proofs.Slot.{signature-lt}
@@ -56,18 +56,20 @@ module _ (size : ℕ) (slot last rest : List ℕ) (long : length slot ≡ size) 
   pub lent-is : take (2 * size) (last ++ rest) ≡ unpacked slot
   lent-is = take-at last rest (2 * size) last-long ∙ is
 
-  pub lent-long : length (take (2 * size) (last ++ rest)) ≡ 2 * size
-  lent-long = ap (λ (l : List ℕ). length l) (take-at last rest (2 * size) last-long) ∙ last-long
-
-  pub lent-below : Below 16 (take (2 * size) (last ++ rest))
-  lent-below = rw lent-is (below-unpacked slot)
+  pub lent-whole : {mode : ℕ} → InRange size mode → SemiOctetsOf size mode (take (2 * size) (last ++ rest))
+  lent-whole r = record {
+    range = r;
+    long = ap (λ (l : List ℕ). length l) (take-at last rest (2 * size) last-long) ∙ last-long;
+    below = rw lent-is (below-unpacked slot);
+  }
 
 -- the words of a slot, from its semi-octets
 pub word-from : (size mode : ℕ) (slot places : List ℕ) (i : ℕ) → 40 ≤ size → length slot ≡ size → places ≡ unpacked slot
     → wordFrom size mode places i ≡ wordIn size mode slot i
 unfolding unpacked wordFrom wordIn received
 word-from size mode slot places i h e p =
-    tab-same (λ k. sum (getD places (placeOf size i k) 0) (signature mode i k)) (λ k. sum (semi slot (placeOf size i k)) (signature mode i k))
+    tab-same (λ k. sum (getD places (placeOf size i k) 0) (signature mode i k))
+    (λ k. sum (semi slot (placeOf size i k)) (signature mode i k))
     (wordLength size i)
     (λ k m.
     let q = place-is size (words size) i k refl in

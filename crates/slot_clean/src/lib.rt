@@ -3,22 +3,18 @@
 // length.
 ghost use mathlib.Core.Path.{_≡_};
 ghost use mathlib.Core.Bool.{true};
-ghost use mathlib.Core.List.{[]};
-ghost use Prim.Native.Nat.{ℕ, _+_, _-_, _*_, _≤_, _<_};
-ghost use lib.ListN.{length, getD};
+ghost use Prim.Native.Nat.{_*_, _≤_};
+ghost use lib.ListN.{length};
 ghost use Rattle.laws.specs.Tab.{Below};
-ghost use Rattle.code_word_laws.specs.Word.{distance};
-ghost use Rattle.code_word_laws.specs.Make.{coded};
-ghost use Rattle.code_word_laws.specs.Register.{withChecks};
-ghost use Rattle.code_word_laws.specs.Checks.{checkRows, summed};
-ghost use Rattle.slot_laws.specs.Sizes.{InRange, words, dataLength};
-ghost use Rattle.slot_laws.specs.Words.{signature};
+ghost use Rattle.slot_laws.specs.Sizes.{words, dataLength};
 ghost use Rattle.slot_laws.specs.Order.{Data};
-ghost use Rattle.slot_clean.specs.Inner.{unpacked, wordFrom, dataFrom, checksFrom, AllClean};
+ghost use Rattle.slot_interleaving.specs.Inner.{AtWord, WithRows};
+ghost use Rattle.slot_clean.specs.Inner.{unpacked, dataFrom, SemiOctetsOf, ChecksSummed, ChecksAre, CleanOver, AllClean};
 
 // The semi-octets of the slot, each at its place (A.52).
 pub fn unpack(slot: &[u8], places: &mut [u8])
-    requires { ⌜ (length (now slot) ≤ 400) × (length (now places) ≡ 2 * length (now slot)) ⌝ }
+    requires { ⌜ length (now slot) ≤ 400 ⌝ }
+    requires { ⌜ length (now places) ≡ 2 * length (now slot) ⌝ }
     ensures { λ _. ⌜ now (places .exit) ≡ unpacked (now (slot .entry)) ⌝ }
 {
     let mut j: usize = 0;
@@ -40,15 +36,17 @@ fn receive_data(
     rows: &[u32; 208],
     w: &mut [u8],
 ) -> u32
-    requires { ⌜ (InRange size mode) × (i < words size) × (length (now places) ≡ 2 * size) × (length (now row) ≡ 15) × (length (now w) ≡ dataLength size mode i) × ((k : ℕ) → getD (now row) k 0 ≡ signature mode i k) ⌝ }
-    ensures { λ r. ⌜ (now (w .exit) ≡ dataFrom size mode (now (places .entry)) i) × (r ≡ summed (now (rows .entry)) (λ (k : ℕ). getD (dataFrom size mode (now (places .entry)) i) k 0) (dataLength size mode i)) ⌝ }
+    requires { ⌜ AtWord size mode i (2 * size) (now row) (now places) ⌝ }
+    requires { ⌜ length (now w) ≡ dataLength size mode i ⌝ }
+    ensures { λ r. ⌜ now (w .exit) ≡ dataFrom size mode (now (places .entry)) i ⌝ }
+    ensures { λ r. ⌜ ChecksSummed size mode (now (places .entry)) i (now (rows .entry)) r ⌝ }
 {
     let count = slot_sizes::word_count(size);
-    let n = 2 * (mode - 1);
+    let checks = code_word_settings::distance(mode) - 1;
     let mut r: u32 = 0;
     let mut k: usize = 0;
     while k < w.len() {
-        let c = places[2 * size - count * (n + k) - i - 1] ^ row[n + k];
+        let c = places[slot_interleaving::place(size, count, i, checks + k)] ^ row[checks + k];
         w[k] = c;
         r = code_word::with_data(rows, k, c, r);
         k = k + 1;
@@ -59,16 +57,17 @@ fn receive_data(
 // Whether the check semi-octets of word i as received are those packed in r, the last in the lowest digit.
 // No promise where not: the slot is then corrected word by word.
 fn same_checks(size: usize, i: usize, mode: usize, places: &[u8], row: &[u8], r: u32) -> bool
-    requires { ⌜ (InRange size mode) × (i < words size) × (length (now places) ≡ 2 * size) × (length (now row) ≡ 15) × ((k : ℕ) → getD (now row) k 0 ≡ signature mode i k) ⌝ }
-    ensures { λ b. ⌜ (b ≡ true → checksFrom size mode (now (places .entry)) i ≡ withChecks (2 * (mode - 1)) r []) ⌝ }
+    requires { ⌜ AtWord size mode i (2 * size) (now row) (now places) ⌝ }
+    ensures { λ b. ⌜ (b ≡ true → ChecksAre size mode (now (places .entry)) i r) ⌝ }
 {
     let count = slot_sizes::word_count(size);
     let mut bits: u8 = 0;
     let mut rest = r;
-    let mut k = 2 * (mode - 1);
+    let mut k = code_word_settings::distance(mode) - 1;
     while 0 < k {
         k = k - 1;
-        bits = bits | (places[2 * size - count * k - i - 1] ^ row[k] ^ (rest % 16) as u8);
+        let c = places[slot_interleaving::place(size, count, i, k)] ^ row[k];
+        bits = bits | (c ^ (rest % 16) as u8);
         rest = rest / 16;
     }
     bits == 0
@@ -83,8 +82,10 @@ fn read_clean_word(
     rows: &[u32; 208],
     w: &mut [u8],
 ) -> bool
-    requires { ⌜ (InRange size mode) × (i < words size) × (length (now places) ≡ 2 * size) × (Below 16 (now places)) × (now rows ≡ checkRows (distance mode - 1)) × (length (now w) ≡ dataLength size mode i) ⌝ }
-    ensures { λ b. ⌜ (now (w .exit) ≡ dataFrom size mode (now (places .entry)) i) × (b ≡ true → wordFrom size mode (now (places .entry)) i ≡ coded (distance mode) (now (w .exit))) ⌝ }
+    requires { ⌜ WithRows size mode i (2 * size) (now w) (now rows) (now places) ⌝ }
+    requires { ⌜ Below 16 (now places) ⌝ }
+    ensures { λ b. ⌜ now (w .exit) ≡ dataFrom size mode (now (places .entry)) i ⌝ }
+    ensures { λ b. ⌜ (b ≡ true → CleanOver size mode (now (places .entry)) i (now (w .exit))) ⌝ }
 {
     let added = slot_interleaving::signature_row(mode, i);
     let r = receive_data(size, i, mode, places, &added, rows, w);
@@ -93,11 +94,13 @@ fn read_clean_word(
 
 // Whether every word as received is the code word over its data: then these stand in order, and there is nothing to correct.
 pub fn read_clean(size: usize, mode: usize, places: &[u8], message: &mut [u8]) -> bool
-    requires { ⌜ (InRange size mode) × (length (now places) ≡ 2 * size) × (Below 16 (now places)) × (Data size mode (now message)) ⌝ }
-    ensures { λ b. ⌜ (Data size mode (now (message .exit))) × (b ≡ true → AllClean size mode (now (places .entry)) (now (message .exit)) (words size)) ⌝ }
+    requires { ⌜ SemiOctetsOf size mode (now places) ⌝ }
+    requires { ⌜ Data size mode (now message) ⌝ }
+    ensures { λ b. ⌜ Data size mode (now (message .exit)) ⌝ }
+    ensures { λ b. ⌜ (b ≡ true → AllClean size mode (now (places .entry)) (now (message .exit)) (words size)) ⌝ }
 {
     let count = slot_sizes::word_count(size);
-    let checks = 2 * (mode - 1);
+    let checks = code_word_settings::distance(mode) - 1;
     let rows = code_word::check_rows(mode as u32);
     let mut at: usize = 0;
     let mut i: usize = 0;

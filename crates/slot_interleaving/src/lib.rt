@@ -2,20 +2,16 @@
 // Inner: the crates of `slot` that order, receive and write stand over it. It asks for a size and a mode in range and for buffers of their
 // length.
 ghost use mathlib.Core.Path.{_≡_};
-ghost use mathlib.Core.List.{[]};
-ghost use Prim.Native.Nat.{ℕ, _+_, _*_, _-_, _≤_, _<_};
+ghost use Prim.Native.Nat.{ℕ, _+_, _*_, _≤_, _<_};
 ghost use lib.ListN.{length, getD, take, drop};
 ghost use Rattle.laws.specs.Tab.{Below};
-ghost use Rattle.code_word_laws.specs.Word.{distance};
-ghost use Rattle.code_word_laws.specs.Make.{coded};
-ghost use Rattle.code_word_laws.specs.Register.{withChecks};
-ghost use Rattle.code_word_laws.specs.Checks.{checkRows, summed};
-ghost use Rattle.slot_laws.specs.Sizes.{InRange, words, wordLength, dataLength};
+ghost use Rattle.code_word_laws.specs.Checks.{summed};
+ghost use Rattle.slot_laws.specs.Sizes.{InRange, dataLength};
 ghost use Rattle.slot_laws.specs.Semi.{pack};
-ghost use Rattle.slot_laws.specs.Words.{signature};
+ghost use Rattle.slot_laws.specs.Words.{signature, placeOf};
 ghost use Rattle.slot_laws.specs.Order.{Data};
 ghost use Rattle.slot_laws.specs.Slot.{slotWith};
-ghost use Rattle.slot_interleaving.specs.Inner.{Spanned, Scattered};
+ghost use Rattle.slot_interleaving.specs.Inner.{HasPlace, AtWord, WithRows, InPairs, DataSpanned, ChecksSpanned, WordScattered};
 
 // A.47, A.48 and A.49.
 const TWO: [u8; 15] = [7, 15, 5, 6, 14, 9, 1, 3, 12, 10, 13, 3, 2, 0, 0];
@@ -26,8 +22,10 @@ const FOUR: [u8; 15] = [6, 15, 12, 2, 9, 15, 2, 8, 12, 3, 10, 5, 4, 0, 0];
 
 // What the signature adds to word i.
 pub fn signature_row(mode: usize, i: usize) -> [u8; 15]
-    requires { ⌜ (2 ≤ mode) × (mode ≤ 4) ⌝ }
-    ensures { λ r. ⌜ (length r ≡ 15) × ((k : ℕ) → getD r k 0 ≡ signature mode i k) ⌝ }
+    requires { ⌜ 2 ≤ mode ⌝ }
+    requires { ⌜ mode ≤ 4 ⌝ }
+    ensures { λ r. ⌜ length r ≡ 15 ⌝ }
+    ensures { λ r. ⌜ ((k : ℕ) → getD r k 0 ≡ signature mode i k) ⌝ }
 {
     if 6 <= i {
         return [0; 15];
@@ -51,6 +49,15 @@ pub fn copy_part(from: &[u8], at: usize, out: &mut [u8])
     }
 }
 
+// The place in the slot of semi-octet k of word i (A.51).
+pub fn place(size: usize, count: usize, i: usize, k: usize) -> usize
+    requires { ⌜ HasPlace size count i k ⌝ }
+    ensures { λ r. ⌜ r ≡ placeOf size i k ⌝ }
+    ensures { λ r. ⌜ r < 2 * size ⌝ }
+{
+    2 * size - count * k - i - 1
+}
+
 // The data of word i, with the signature's row added, to their places; what they add to the check semi-octets is summed up on the way.
 fn scatter_data(
     size: usize,
@@ -61,18 +68,19 @@ fn scatter_data(
     rows: &[u32; 208],
     places: &mut [u8],
 ) -> u32
-    requires { ⌜ (InRange size mode) × (i < words size) × (length (now message) ≡ dataLength size mode i) × (length (now row) ≡ 15) × (length (now places) ≡ 800) × ((k : ℕ) → getD (now row) k 0 ≡ signature mode i k) ⌝ }
+    requires { ⌜ AtWord size mode i 800 (now row) (now places) ⌝ }
+    requires { ⌜ length (now message) ≡ dataLength size mode i ⌝ }
     ensures { λ r. ⌜ r ≡ summed (now (rows .entry)) (λ k. getD (now (message .entry)) k 0) (length (now (message .entry))) ⌝ }
-    ensures { λ r. ⌜ Spanned size (signature mode) i (λ k. getD (now (message .entry)) (k - 2 * (mode - 1)) 0) (2 * (mode - 1)) (wordLength size i) (now (places .entry)) (now (places .exit)) ⌝ }
+    ensures { λ r. ⌜ DataSpanned size mode i (now (message .entry)) (dataLength size mode i) (now (places .entry)) (now (places .exit)) ⌝ }
 {
     let count = slot_sizes::word_count(size);
-    let checks = 2 * (mode - 1);
+    let checks = code_word_settings::distance(mode) - 1;
     let mut r: u32 = 0;
     let mut k: usize = 0;
     while k < message.len() {
         let c = message[k];
         r = code_word::with_data(rows, k, c, r);
-        places[2 * size - count * (checks + k) - i - 1] = c ^ row[checks + k];
+        places[place(size, count, i, checks + k)] = c ^ row[checks + k];
         k = k + 1;
     }
     r
@@ -80,22 +88,22 @@ fn scatter_data(
 
 // The check semi-octets of word i, with the signature's row added, to their places; the last one is r's lowest digit.
 fn scatter_checks(size: usize, i: usize, mode: usize, r: u32, row: &[u8], places: &mut [u8])
-    requires { ⌜ (InRange size mode) × (i < words size) × (length (now row) ≡ 15) × (length (now places) ≡ 800) × ((k : ℕ) → getD (now row) k 0 ≡ signature mode i k) ⌝ }
-    ensures { λ _. ⌜ Spanned size (signature mode) i (λ k. getD (withChecks (2 * (mode - 1)) r []) k 0) 0 (2 * (mode - 1)) (now (places .entry)) (now (places .exit)) ⌝ }
+    requires { ⌜ AtWord size mode i 800 (now row) (now places) ⌝ }
+    ensures { λ _. ⌜ ChecksSpanned size mode i r 0 (now (places .entry)) (now (places .exit)) ⌝ }
 {
     let count = slot_sizes::word_count(size);
     let mut rest = r;
-    let mut k = 2 * (mode - 1);
+    let mut k = code_word_settings::distance(mode) - 1;
     while 0 < k {
         k = k - 1;
-        places[2 * size - count * k - i - 1] = (rest % 16) as u8 ^ row[k];
+        places[place(size, count, i, k)] = (rest % 16) as u8 ^ row[k];
         rest = rest / 16;
     }
 }
 
 // Two places to a byte (A.52).
 fn pack_bytes(places: &[u8], slot: &mut [u8])
-    requires { ⌜ (2 * length (now slot) ≤ length (now places)) × (length (now slot) ≤ 400) × ((p : ℕ) → p < 2 * length (now slot) → getD (now places) p 0 < 16) ⌝ }
+    requires { ⌜ InPairs (now slot) (now places) ⌝ }
     ensures { λ _. ⌜ now (slot .exit) ≡ pack (λ p. getD (now (places .entry)) p 0) (length (now (slot .entry))) ⌝ }
 {
     let mut j: usize = 0;
@@ -114,8 +122,9 @@ fn place_word(
     rows: &[u32; 208],
     places: &mut [u8],
 )
-    requires { ⌜ (InRange size mode) × (i < words size) × (length (now message) ≡ dataLength size mode i) × (Below 16 (now message)) × (now rows ≡ checkRows (distance mode - 1)) × (length (now places) ≡ 800) ⌝ }
-    ensures { λ _. ⌜ Scattered size (signature mode) i (coded (distance mode) (now (message .entry))) (now (places .entry)) (now (places .exit)) ⌝ }
+    requires { ⌜ WithRows size mode i 800 (now message) (now rows) (now places) ⌝ }
+    requires { ⌜ Below 16 (now message) ⌝ }
+    ensures { λ _. ⌜ WordScattered size mode i (now (message .entry)) (now (places .entry)) (now (places .exit)) ⌝ }
 {
     let row = signature_row(mode, i);
     let r = scatter_data(size, i, mode, message, &row, rows, places);
@@ -128,12 +137,13 @@ pub fn write_slot(size: usize, mode: usize, message: &[u8], slot: &mut [u8])
     ensures { λ _. ⌜ now (slot .exit) ≡ slotWith size mode (now (message .entry)) ⌝ }
 {
     let count = slot_sizes::word_count(size);
+    let checks = code_word_settings::distance(mode) - 1;
     let rows = code_word::check_rows(mode as u32);
     let mut places = [0u8; 800];
     let mut at: usize = 0;
     let mut i: usize = 0;
     while i < count {
-        let e = at + (slot_sizes::word_length(size, count, i) - 2 * (mode - 1));
+        let e = at + (slot_sizes::word_length(size, count, i) - checks);
         place_word(size, mode, i, &message[at..e], &rows, &mut places);
         at = e;
         i = i + 1;

@@ -4,30 +4,53 @@ use mathlib.Core.Path.{_≡_, sym, ap, _∙_}
 use mathlib.Core.List.{List, _++_}
 use Prim.Native.Nat.{ℕ, suc, _+_, _*_, _-_, _≤_, _<_}
 use native.Mathlib.Omega.{arith}
+use native.Mathlib.Numerals.{add-one}
 use lib.ListN.{length, take, drop, length-drop, take-append-drop}
 use lib.Seq.{length-take-le, take-at, drop-at}
 use borrow.Rule.Slice.PartMut.{midOf, putMid, same-len-mid}
 use Rattle.laws.specs.Tab.{total, Below}
-use Rattle.laws.proofs.Tab.{total-next, total-up, below-append, below-take, below-drop}
+use Rattle.laws.proofs.Tab.{total-none, total-next, total-up, below-append, below-take, below-drop}
+use Rattle.code_word_laws.specs.Word.{distance}
 use Rattle.slot_laws.specs.Sizes.{InRange, words, wordLength, dataLength}
 use Rattle.slot_laws.specs.Words.{piece, dataWord}
 use Rattle.slot_laws.specs.Order.{Data}
-use Rattle.slot_laws.proofs.Sizes.{checks-fit, data-lengths}
+use Rattle.slot_laws.proofs.Sizes.{checks-fit, sizes, data-lengths}
 use Rattle.slot_laws.proofs.Words.{piece-front}
 
-module _ (size mode i at n e : ℕ) (old : List ℕ) (range : InRange size mode) (inside : i < words size) (start : at ≡ total (dataLength size mode) i)
-    (given : Data size mode old) (is : n ≡ wordLength size i) (end : e ≡ at + (n - 2 * (mode - 1))) where
-  end-is : e ≡ at + dataLength size mode i
-  end-is = let f = checks-fit size mode i range inside in omega arith
+-- the data of word i are those from at to e - 1 of all data; n is the word's length
+pub record WordPart (size mode i at n e : ℕ) (old : List ℕ) : Type 0 where
+  pub range : InRange size mode
+  pub inside : i < words size
+  pub start : at ≡ total (dataLength size mode) i
+  pub given : Data size mode old
+  pub is : n ≡ wordLength size i
+  pub end : e ≡ at + (n - (distance mode - 1))
+
+pub start-first : (size mode : ℕ) → 0 ≡ total (dataLength size mode) 0
+start-first size mode = sym (total-none (dataLength size mode))
+
+module _ {size mode i at n e : ℕ} {old : List ℕ} (part : WordPart size mode i at n e old) where
+  pub end-is : e ≡ at + dataLength size mode i
+  end-is = let f = checks-fit size mode i (part .range) (part .inside) in omega arith
+
+  pub next-start : e ≡ total (dataLength size mode) (i + 1)
+  next-start =
+      let t = total-next (dataLength size mode) i in
+      let s = end-is in
+      rw add-one (omega arith)
 
   pub before-end : e ≤ length old
   before-end =
-      let u = total-up (dataLength size mode) (suc i) (words size) inside in
+      let u = total-up (dataLength size mode) (suc i) (words size) (part .inside) in
       let n = total-next (dataLength size mode) i in
-      let t = data-lengths size mode range in
-      let l = given .long in
+      let t = data-lengths size mode (part .range) in
+      let l = part .given .long in
       let s = end-is in
       omega arith
+
+  -- so that it is far from the largest number
+  pub end-few : e ≤ 800
+  end-few = omega (arith, before-end, part .given .long, sizes size mode (part .range), part .range .size-to)
 
   pub room-is : length (midOf at (e - at) old) ≡ dataLength size mode i
   room-is =
@@ -40,11 +63,11 @@ module _ (size mode i at n e : ℕ) (old : List ℕ) (range : InRange size mode)
   module _ (last : List ℕ) (last-long : length last ≡ dataLength size mode i) (below-last : Below 16 last) where
     pub new-data : Data size mode (putMid at (e - at) old last)
     new-data = record {
-      long = same-len-mid at (e - at) old last (last-long ∙ sym room-is) ∙ given .long;
+      long = same-len-mid at (e - at) old last (last-long ∙ sym room-is) ∙ part .given .long;
       below =
-          below-append 16 (take at old) (last ++ drop (e - at) (drop at old)) (below-take 16 at old (omega arith) (given .below))
+          below-append 16 (take at old) (last ++ drop (e - at) (drop at old)) (below-take 16 at old (omega arith) (part .given .below))
           (below-append 16 last (drop (e - at) (drop at old)) below-last
-          (below-drop 16 (e - at) (drop at old) (below-drop 16 at old (given .below))));
+          (below-drop 16 (e - at) (drop at old) (below-drop 16 at old (part .given .below))));
     }
 
     front-long : length (take at old) ≡ at
@@ -53,7 +76,7 @@ module _ (size mode i at n e : ℕ) (old : List ℕ) (range : InRange size mode)
     pub new-word : dataWord size mode (putMid at (e - at) old last) i ≡ last
     unfolding dataWord piece
     new-word =
-        ap (λ (n : ℕ). take (dataLength size mode i) (drop n (putMid at (e - at) old last))) (sym start)
+        ap (λ (n : ℕ). take (dataLength size mode i) (drop n (putMid at (e - at) old last))) (sym (part .start))
         ∙ ap (take (dataLength size mode i)) (drop-at (take at old) (last ++ drop (e - at) (drop at old)) at front-long)
         ∙ take-at last (drop (e - at) (drop at old)) (dataLength size mode i) last-long
 

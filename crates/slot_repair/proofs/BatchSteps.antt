@@ -17,7 +17,7 @@ use borrow.Rule.Slice.PartMut.{midOf, putMid, same-len-mid}
 use Rattle.laws.specs.Tab.{total, pick, Below}
 use Rattle.laws.proofs.Tab.{total-same, total-next, total-none, total-up, below-take, below-drop}
 use Rattle.laws.proofs.Spread.{share}
-use Rattle.code_word_laws.specs.Word.{Fits, apart, distance}
+use Rattle.code_word_laws.specs.Word.{Fits, apart, distance, IsDistance}
 use Rattle.code_word_laws.specs.Make.{coded}
 use Rattle.code_word_laws.specs.Correct.{Near, WordCorrected, lengthAt, startAt, wordAt, Batch, AllCorrected}
 use Rattle.code_word.specs.Correct.{CorrectsEach}
@@ -26,7 +26,7 @@ use Rattle.slot_laws.specs.Sizes.{InRange, words, wordLength, dataLength}
 use Rattle.slot_laws.specs.Words.{piece, dataWord}
 use Rattle.slot_laws.specs.Order.{Data}
 use Rattle.slot_laws.specs.Slot.{codeWord, wordIn}
-use Rattle.slot_clean.specs.Inner.{unpacked, wordFrom}
+use Rattle.slot_clean.specs.Inner.{unpacked, wordFrom, SemiOctetsOf}
 use Rattle.slot_repair.specs.Inner.{AllArrived, GatheredTo, IsGathered, IsRepairFrom}
 use Rattle.slot_repair.specs.declared.Outcome.{Outcome}
 use Rattle.slot_repair.specs.declared.Outcome.the-variants.{Repaired, Beyond}
@@ -34,7 +34,7 @@ use Rattle.slot_laws.proofs.Sizes.{words-low, length-share, lengths, length-low
 use Rattle.slot_laws.proofs.Semi.{semi-octets-of, below-of}
 use Rattle.slot_laws.proofs.Words.{joined, below-joined, length-piece, below-piece, joined-piece, piece-joined}
 use Rattle.slot_laws.proofs.Slot.{words-in}
-use Rattle.slot_laws.proofs.RoomSteps.{room-is, new-data, new-word, same-words-before}
+use Rattle.slot_laws.proofs.RoomSteps.{WordPart, room-is, new-data, new-word, same-words-before}
 use Rattle.slot_clean.proofs.Unpacking.{length-from, words-from, word-from}
 
 -- ---- the lengths and the places of the words in one row
@@ -101,40 +101,50 @@ two-in-front : (a b : ℕ) (xs ys zs : List ℕ) → length xs ≡ a → length 
 two-in-front a b xs ys zs e f =
     ap (take (a + b)) (sym (append-assoc xs ys zs)) ∙ take-at (xs ++ ys) zs (a + b) (length-append xs ys ∙ ap₂ (λ (x y : ℕ). x + y) e f)
 
-module _ (size mode i at n e : ℕ) (places all : List ℕ) (range : InRange size mode) (inside : i < words size) (arrived : ArrivedTo size mode places i at all)
-    (long : n ≡ wordLength size i) (end : e ≡ at + n) where
+-- word i comes next, to the places from at to e - 1; n is its length
+pub record WordRoom (size mode i at n e : ℕ) (places all : List ℕ) : Type 0 where
+  pub range : InRange size mode
+  pub inside : i < words size
+  pub arrived : ArrivedTo size mode places i at all
+  pub long : n ≡ wordLength size i
+  pub end : e ≡ at + n
+
+module _ {size mode i at n e : ℕ} {places all : List ℕ} (room : WordRoom size mode i at n e places all) where
   pub arrives-end : e ≤ 2 * size
   arrives-end =
-      let u = total-up (wordLength size) (suc i) (words size) inside in
+      let u = total-up (wordLength size) (suc i) (words size) (room .inside) in
       let t = total-next (wordLength size) i in
-      let s = lengths size (range .size-from) in
-      let p = arrived .place in
+      let s = lengths size (room .range .size-from) in
+      let p = room .arrived .place in
       omega arith
 
   pub arrives-room : length (midOf at (e - at) all) ≡ wordLength size i
   arrives-room =
       let d = length-drop at all in
       let b = arrives-end in
-      let l = arrived .long in
+      let l = room .arrived .long in
       length-take-le (e - at) (drop at all) (omega arith) ∙ omega arith
 
-  pub arrived-one : (last : List ℕ) → last ≡ wordFrom size mode places i → ArrivedTo size mode places (i + 1) e (putMid at (e - at) all last)
+  pub arrived-one : (last : List ℕ) → last ≡ wordFrom size mode places i
+      → ArrivedTo size mode places (i + 1) e (putMid at (e - at) all last)
   unfolding joined
   arrived-one last is =
       let k : length last ≡ wordLength size i = ap (λ (x : List ℕ). length x) is ∙ length-from size mode places i in
       let b = arrives-end in
-      let l = arrived .long in
+      let l = room .arrived .long in
       record {
-        place = end ∙ next-from size i at n (arrived .place) long;
-        long = same-len-mid at (e - at) all last (k ∙ sym arrives-room) ∙ arrived .long;
+        place = room .end ∙ next-from size i at n (room .arrived .place) (room .long);
+        long = same-len-mid at (e - at) all last (k ∙ sym arrives-room) ∙ l;
         front =
-            ap (λ (x : ℕ). take x (putMid at (e - at) all last)) end
-            ∙ two-in-front at n (take at all) last (drop (e - at) (drop at all)) (length-take-le at all (omega arith)) (k ∙ sym long)
-            ∙ ap₂ (λ (x y : List ℕ). x ++ y) (arrived .front) is
+            ap (λ (x : ℕ). take x (putMid at (e - at) all last)) (room .end)
+            ∙ two-in-front at n (take at all) last (drop (e - at) (drop at all)) (length-take-le at all (omega arith))
+            (k ∙ sym (room .long))
+            ∙ ap₂ (λ (x y : List ℕ). x ++ y) (room .arrived .front) is
             ∙ ap (joined (wordFrom size mode places)) (sym (add-one i));
       }
 
-pub arrived-all : (size mode i at : ℕ) (places all : List ℕ) → InRange size mode → Below 16 places → i ≡ words size → ArrivedTo size mode places i at all
+pub arrived-all : (size mode i at : ℕ) (places all : List ℕ) → InRange size mode → Below 16 places → i ≡ words size
+    → ArrivedTo size mode places i at all
     → AllArrived size mode places all
 arrived-all size mode i at places all r b e k =
     let w = words-from size mode places b in
@@ -180,7 +190,8 @@ module _ (size mode : ℕ) (places old room : List ℕ) (range : InRange size mo
   each-answered new counts (suc (suc n)) c = absurd c
 
   module _ (new counts : List ℕ) (corrected : AllCorrected mode old room new counts) where
-    each-corrected : (i : ℕ) → i < words size → WordCorrected mode (wordFrom size mode places i) (piece (wordLength size) new i) (getD counts i 0)
+    each-corrected : (i : ℕ) → i < words size → WordCorrected mode (wordFrom size mode places i) (piece (wordLength size) new i)
+        (getD counts i 0)
     each-corrected i l =
         let m = corrected .as-many ∙ some in
         let a = word-at size i (length counts) old (range .size-from) l (arrived .long) m ∙ arrived .each i l in
@@ -188,7 +199,8 @@ module _ (size mode : ℕ) (places old room : List ℕ) (range : InRange size mo
         rw (a, b) at (corrected .each i (omega (arith, m)))
 
     corrected-below : (i : ℕ) → i < words size → (b : Bool) → ltb (getD counts i 0) mode ≡ b → Below 16 (piece (wordLength size) new i)
-    corrected-below i l true e = below-of (piece (wordLength size) new i) (each-corrected i l .found (ltb-true (getD counts i 0) mode e) .semi-octets)
+    corrected-below i l true e = below-of (piece (wordLength size) new i)
+        (each-corrected i l .found (ltb-true (getD counts i 0) mode e) .semi-octets)
     corrected-below i l false e =
         let k = each-corrected i l .kept (ltb-false (getD counts i 0) mode e) ∙ sym (arrived .each i l) in
         rw k (below-piece 16 (wordLength size) old i (omega arith) (arrived .below))
@@ -204,7 +216,8 @@ module _ (size mode : ℕ) (places old room : List ℕ) (range : InRange size mo
         long = l;
         below =
             subst (λ (x : List ℕ). Below 16 x) (sym j)
-            (below-joined 16 (piece (wordLength size) new) (words size) (omega arith) (λ i k. corrected-below new counts a i k (ltb (getD counts i 0) mode) refl));
+            (below-joined 16 (piece (wordLength size) new) (words size) (omega arith)
+            (λ i k. corrected-below new counts a i k (ltb (getD counts i 0) mode) refl));
         many = a .as-many ∙ some;
         each = λ i k. each-corrected new counts a i k;
       }
@@ -219,74 +232,74 @@ behind-front (suc c) zero (suc n) [] e = refl
 behind-front (suc c) (suc m) (suc n) [] e = refl
 behind-front (suc c) m (suc n) (x ∷ xs) e = behind-front c m n xs (omega arith)
 
-module _ (size mode i at n e : ℕ) (old : List ℕ) (range : InRange size mode) (inside : i < words size) (start : at ≡ total (dataLength size mode) i)
-    (given : Data size mode old) (is : n ≡ wordLength size i) (end : e ≡ at + (n - 2 * (mode - 1))) where
-  room : length (midOf at (e - at) old) ≡ dataLength size mode i
-  room = room-is size mode i at n e old range inside start given is end
+-- the data of word i, which starts at from of all, go to their room
+module _ {size mode i at n e from d : ℕ} {old all : List ℕ} (part : WordPart size mode i at n e old) (whole : SemiOctetsOf size mode all)
+    (from-is : from ≡ total (wordLength size) i) (is : IsDistance mode d) where
+  pub ends-in : from + n ≤ 2 * size
+  ends-in =
+      let u = total-up (wordLength size) (suc i) (words size) (part .inside) in
+      let t = total-next (wordLength size) i in
+      omega (arith, lengths size (part .range .size-from), part .is)
 
-  module _ (from : ℕ) (all counts : List ℕ) (small : Below 16 all) (from-is : from ≡ total (wordLength size) i) (long : length all ≡ 2 * size) where
-    ends-in : total (wordLength size) (suc i) ≤ length all
-    ends-in =
-        let u = total-up (wordLength size) (suc i) (words size) inside in
-        omega (arith, lengths size (range .size-from), long)
+  pub take-fits : from + (d - 1) + length (midOf at (e - at) old) ≤ length all
+  take-fits =
+      let r = room-is part in
+      let f = checks-fit size mode i (part .range) (part .inside) in
+      let b = ends-in in
+      omega (arith, whole .long, is .is, part .is)
 
-    pub take-fits : from + 2 * (mode - 1) + length (midOf at (e - at) old) ≤ length all
-    take-fits =
-        let r = room in
-        let f = checks-fit size mode i range inside in
-        let t = total-next (wordLength size) i in
-        let b = ends-in in
-        omega arith
+  abbrev word : List ℕ
+  word = piece (wordLength size) all i
 
-    abbrev word : List ℕ
-    word = piece (wordLength size) all i
+  word-long : length word ≡ wordLength size i
+  word-long =
+      let t = total-next (wordLength size) i in
+      length-piece (wordLength size) all i (omega (arith, ends-in, whole .long, part .is))
 
-    word-long : length word ≡ wordLength size i
-    word-long = length-piece (wordLength size) all i ends-in
+  module _ {last : List ℕ} (copied : last ≡ take (length (midOf at (e - at) old)) (drop (from + (d - 1)) all)) where
+    last-is : last ≡ drop (distance mode - 1) word
+    unfolding piece
+    last-is =
+        let f = checks-fit size mode i (part .range) (part .inside) in
+        copied
+        ∙ ap (λ (x : ℕ). take (length (midOf at (e - at) old)) (drop (from + (x - 1)) all)) (is .is)
+        ∙ ap₂ (λ (x : ℕ) (y : List ℕ). take x y) (room-is part) (sym (drop-drop (distance mode - 1) from all))
+        ∙ behind-front (distance mode - 1) (dataLength size mode i) (wordLength size i) (drop from all) (sym f)
+        ∙ ap (λ (y : ℕ). drop (distance mode - 1) (take (wordLength size i) (drop y all))) from-is
 
-    module _ (last : List ℕ) (copied : last ≡ take (length (midOf at (e - at) old)) (drop (from + 2 * (mode - 1)) all)) where
-      last-is : last ≡ drop (2 * (mode - 1)) word
-      unfolding piece
-      last-is =
-          let f = checks-fit size mode i range inside in
-          let k : wordLength size i ≡ 2 * (mode - 1) + dataLength size mode i = omega arith in
-          copied
-          ∙ ap₂ (λ (x : ℕ) (y : List ℕ). take x y) room (sym (drop-drop (2 * (mode - 1)) from all))
-          ∙ behind-front (2 * (mode - 1)) (dataLength size mode i) (wordLength size i) (drop from all) k
-          ∙ ap (λ (y : ℕ). drop (2 * (mode - 1)) (take (wordLength size i) (drop y all))) from-is
+    last-long : length last ≡ dataLength size mode i
+    last-long =
+        let f = checks-fit size mode i (part .range) (part .inside) in
+        let d = length-drop (distance mode - 1) word in
+        ap (λ (s : List ℕ). length s) last-is ∙ d ∙ omega (arith, word-long)
 
-      last-long : length last ≡ dataLength size mode i
-      last-long =
-          let f = checks-fit size mode i range inside in
-          let d = length-drop (2 * (mode - 1)) word in
-          ap (λ (s : List ℕ). length s) last-is ∙ d ∙ omega (arith, word-long)
+    below-last : Below 16 last
+    below-last = rw last-is (below-drop 16 (distance mode - 1) word (below-piece 16 (wordLength size) all i (omega arith) (whole .below)))
 
-      below-last : Below 16 last
-      unfolding piece
-      below-last = rw last-is (below-drop 16 (2 * (mode - 1)) word (below-take 16 (wordLength size i) (drop (total (wordLength size) i) all) (omega arith) (below-drop 16 (total (wordLength size) i) all small)))
+    pub gathered-next : {counts : List ℕ} {sum count : ℕ} → GatheredTo size mode all counts old i sum → count ≡ getD counts i 0
+        → count < mode
+        → GatheredTo size mode all counts (putMid at (e - at) old last) (i + 1) (sum + count)
+    gathered-next {counts} {sum} {count} g c l = record {
+      given = new-data part last last-long below-last;
+      each = λ j h. each-next j h (eqb j i) refl;
+      few = λ j h. few-next j h (eqb j i) refl;
+      counted =
+          ap₂ (λ (x y : ℕ). x + y) (g .counted) c
+          ∙ sym (total-next (λ j. getD counts j 0) i)
+          ∙ ap (total (λ j. getD counts j 0)) (sym (add-one i));
+    }
+      where
+        each-next : (j : ℕ) → j < i + 1 → (b : Bool) → eqb j i ≡ b
+            → dataWord size mode (putMid at (e - at) old last) j ≡ drop (distance mode - 1) (piece (wordLength size) all j)
+        each-next j h true t = rw (eqb-true j i t) (new-word part last last-long below-last ∙ last-is)
+        each-next j h false t =
+            let d : (j ≡ i → ⊥) = eqb-false j i t in
+            let k : j < i = omega arith in
+            same-words-before part last last-long below-last j k ∙ g .each j k
 
-      pub gathered-next : (sum count : ℕ) → GatheredTo size mode all counts old i sum → count ≡ getD counts i 0 → count < mode
-          → GatheredTo size mode all counts (putMid at (e - at) old last) (i + 1) (sum + count)
-      gathered-next sum count g c l = record {
-        given = new-data size mode i at n e old range inside start given is end last last-long below-last;
-        each = λ j h. each-next j h (eqb j i) refl;
-        few = λ j h. few-next j h (eqb j i) refl;
-        counted =
-            ap₂ (λ (x y : ℕ). x + y) (g .counted) c
-            ∙ sym (total-next (λ j. getD counts j 0) i)
-            ∙ ap (total (λ j. getD counts j 0)) (sym (add-one i));
-      }
-        where
-          each-next : (j : ℕ) → j < i + 1 → (b : Bool) → eqb j i ≡ b → dataWord size mode (putMid at (e - at) old last) j ≡ drop (2 * (mode - 1)) (piece (wordLength size) all j)
-          each-next j h true t = rw (eqb-true j i t) (new-word size mode i at n e old range inside start given is end last last-long below-last ∙ last-is)
-          each-next j h false t =
-              let d : (j ≡ i → ⊥) = eqb-false j i t in
-              let k : j < i = omega arith in
-              same-words-before size mode i at n e old range inside start given is end last last-long below-last j k ∙ g .each j k
-
-          few-next : (j : ℕ) → j < i + 1 → (b : Bool) → eqb j i ≡ b → getD counts j 0 < mode
-          few-next j h true t = rw (eqb-true j i t) (rw c at l)
-          few-next j h false t = let d : (j ≡ i → ⊥) = eqb-false j i t in g .few j (omega arith)
+        few-next : (j : ℕ) → j < i + 1 → (b : Bool) → eqb j i ≡ b → getD counts j 0 < mode
+        few-next j h true t = rw (eqb-true j i t) (rw c at l)
+        few-next j h false t = let d : (j ≡ i → ⊥) = eqb-false j i t in g .few j (omega arith)
 
 pub gathered-first : (size mode : ℕ) (all counts message : List ℕ) → Data size mode message → GatheredTo size mode all counts message 0 0
 gathered-first size mode all counts message d = record {
@@ -300,18 +313,17 @@ gathered-first size mode all counts message d = record {
 
 -- a valid word is the code word over its data
 code-of : (size mode i : ℕ) (slot message word : List ℕ) → InRange size mode → i < words size → Near mode (wordIn size mode slot i) word
-    → dataWord size mode message i ≡ drop (2 * (mode - 1)) word → codeWord size mode message i ≡ word
+    → dataWord size mode message i ≡ drop (distance mode - 1) word → codeWord size mode message i ≡ word
 unfolding codeWord
 code-of size mode i slot message word r l n h =
     let long : length word ≡ wordLength size i = n .long ∙ words-in size mode slot r .long i l in
-    let d : 2 * mode - 1 - 1 ≡ 2 * (mode - 1) = omega arith in
+    let d = drop (distance mode - 1) word in
     let f = checks-fit size mode i r l in
     let t = length-high size i (r .size-from) in
-    let k = length-drop (2 * mode - 1 - 1) word in
-    let w : dataWord size mode message i ≡ drop (2 * mode - 1 - 1) word = rw d h in
-    let s = semi-octets-of (drop (2 * mode - 1 - 1) word) (below-drop 16 (2 * mode - 1 - 1) word (below-of word (n .semi-octets))) in
-    ap (coded (distance mode)) w
-    ∙ sym (coded-only (distance mode) (drop (2 * mode - 1 - 1) word) word (omega (arith, r .mode-from)) (omega (arith, long)) s
+    let k = length-drop (distance mode - 1) word in
+    let s = semi-octets-of d (below-drop 16 (distance mode - 1) word (below-of word (n .semi-octets))) in
+    ap (coded (distance mode)) h
+    ∙ sym (coded-only (distance mode) d word (omega (arith, r .mode-from)) (omega (arith, long)) s
     (record { semi-octets = n .semi-octets; long = long ∙ omega (arith, long); holds = refl; valid = n .valid }))
 
 -- .. of the slot that was unpacked
@@ -319,13 +331,15 @@ each-of : (size mode : ℕ) (slot places all counts : List ℕ) → InRange size
     → length slot ≡ size → places ≡ unpacked slot
     → (j : ℕ) → j < words size → WordCorrected mode (wordIn size mode slot j) (piece (wordLength size) all j) (getD counts j 0)
 each-of size mode slot places all counts r a e p j l =
-    subst (λ (w : List ℕ). WordCorrected mode w (piece (wordLength size) all j) (getD counts j 0)) (word-from size mode slot places j (r .size-from) e p) (a .each j l)
+    subst (λ (w : List ℕ). WordCorrected mode w (piece (wordLength size) all j) (getD counts j 0))
+    (word-from size mode slot places j (r .size-from) e p) (a .each j l)
 
 pub repaired : (size mode : ℕ) (places all counts message : List ℕ) (r : Outcome) → InRange size mode → Answered size mode places all counts
     → IsGathered size mode all counts message r → IsRepairFrom size mode places message r
 repaired size mode places all counts message (Repaired n) r a g slot e p =
     let each = each-of size mode slot places all counts r a e p in
-    let near : (j : ℕ) → j < words size → Near mode (wordIn size mode slot j) (piece (wordLength size) all j) = λ j l. each j l .found (g .few j l) in
+    let near : (j : ℕ) → j < words size → Near mode (wordIn size mode slot j) (piece (wordLength size) all j) =
+    λ j l. each j l .found (g .few j l) in
     let code : (j : ℕ) → j < words size → codeWord size mode message j ≡ piece (wordLength size) all j =
     λ j l. code-of size mode j slot message (piece (wordLength size) all j) r l (near j l) (g .each j l) in
     record {

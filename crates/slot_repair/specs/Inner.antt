@@ -1,13 +1,13 @@
--- What the private functions promise one another: no part of what is right of a slot.
+-- What the functions ask of and promise one another: no part of what is right of a slot.
 -- Assumes nothing.
 use mathlib.Core.Path.{_≡_}
 use mathlib.Core.List.{List}
 use Prim.Native.Nat.{ℕ, _-_, _*_, _≤_, _<_}
 use lib.ListN.{length, getD, drop}
 use Rattle.laws.specs.Tab.{total, Below}
-use Rattle.code_word_laws.specs.Word.{apart}
+use Rattle.code_word_laws.specs.Word.{distance, apart}
 use Rattle.code_word_laws.specs.Correct.{Near}
-use Rattle.slot_laws.specs.Sizes.{words, wordLength}
+use Rattle.slot_laws.specs.Sizes.{InRange, words, wordLength}
 use Rattle.slot_laws.specs.Words.{piece, dataWord}
 use Rattle.slot_laws.specs.Order.{Data}
 use Rattle.slot_laws.specs.Slot.{codeWord, wordIn}
@@ -16,10 +16,21 @@ use Rattle.slot_repair.specs.declared.Outcome.{Outcome}
 use Rattle.slot_repair.specs.declared.Outcome.the-variants.{Repaired, Beyond}
 use Rattle.slot_clean.specs.Inner.{unpacked, wordFrom}
 
+-- room for a count a word, and for the data
+pub record Rooms (size mode : ℕ) (counts message : List ℕ) : Type 0 where
+  pub many : length counts ≡ words size
+  pub given : Data size mode message
+
+-- a slot, and room for its data
+pub record SlotAndRoom (size mode : ℕ) (slot message : List ℕ) : Type 0 where
+  pub range : InRange size mode
+  pub long : length slot ≡ size
+  pub given : Data size mode message
+
 -- the first n words have a count, the sum of them is the count, and the data of these words stand where they belong
 pub record GatheredTo (size mode : ℕ) (all counts message : List ℕ) (n count : ℕ) : Type 0 where
   pub given : Data size mode message
-  pub each : (j : ℕ) → j < n → dataWord size mode message j ≡ drop (2 * (mode - 1)) (piece (wordLength size) all j)
+  pub each : (j : ℕ) → j < n → dataWord size mode message j ≡ drop (distance mode - 1) (piece (wordLength size) all j)
   pub few : (j : ℕ) → j < n → getD counts j 0 < mode
   pub counted : count ≡ total (λ j. getD counts j 0) n
 

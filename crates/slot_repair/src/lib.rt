@@ -2,14 +2,13 @@
 // corrected in one call, and their data put in order. Inner: `slot` stands over it. It asks for a size and a mode in range and for rooms of
 // their length.
 ghost use mathlib.Core.Path.{_≡_};
-ghost use Prim.Native.Nat.{ℕ, _+_, _-_, _*_, _<_};
-ghost use lib.ListN.{length, getD};
-ghost use Rattle.laws.specs.Tab.{Below};
-ghost use Rattle.slot_laws.specs.Sizes.{InRange, words, wordLength};
-ghost use Rattle.slot_laws.specs.Words.{signature};
+ghost use Prim.Native.Nat.{_*_};
+ghost use lib.ListN.{length};
+ghost use Rattle.slot_laws.specs.Sizes.{wordLength};
 ghost use Rattle.slot_laws.specs.Order.{Data};
-ghost use Rattle.slot_clean.specs.Inner.{wordFrom};
-ghost use Rattle.slot_repair.specs.Inner.{AllArrived, IsGathered, IsRepair, IsRepairFrom};
+ghost use Rattle.slot_interleaving.specs.Inner.{AtWord};
+ghost use Rattle.slot_clean.specs.Inner.{wordFrom, SemiOctetsOf};
+ghost use Rattle.slot_repair.specs.Inner.{Rooms, SlotAndRoom, AllArrived, IsGathered, IsRepair, IsRepairFrom};
 
 // Whether every word was corrected: the count of all changes, or a word beyond repair.
 pub enum Outcome {
@@ -19,20 +18,22 @@ pub enum Outcome {
 
 // Word i as received.
 fn receive(size: usize, i: usize, mode: usize, places: &[u8], row: &[u8], w: &mut [u8])
-    requires { ⌜ (InRange size mode) × (i < words size) × (length (now places) ≡ 2 * size) × (length (now row) ≡ 15) × (length (now w) ≡ wordLength size i) × ((k : ℕ) → getD (now row) k 0 ≡ signature mode i k) ⌝ }
+    requires { ⌜ AtWord size mode i (2 * size) (now row) (now places) ⌝ }
+    requires { ⌜ length (now w) ≡ wordLength size i ⌝ }
     ensures { λ _. ⌜ now (w .exit) ≡ wordFrom size mode (now (places .entry)) i ⌝ }
 {
     let count = slot_sizes::word_count(size);
     let mut k: usize = 0;
     while k < w.len() {
-        w[k] = places[2 * size - count * k - i - 1] ^ row[k];
+        w[k] = places[slot_interleaving::place(size, count, i, k)] ^ row[k];
         k = k + 1;
     }
 }
 
 // The words as received, one after the other.
 fn receive_all(size: usize, mode: usize, places: &[u8], all: &mut [u8])
-    requires { ⌜ (InRange size mode) × (length (now places) ≡ 2 * size) × (Below 16 (now places)) × (length (now all) ≡ 2 * size) ⌝ }
+    requires { ⌜ SemiOctetsOf size mode (now places) ⌝ }
+    requires { ⌜ length (now all) ≡ 2 * size ⌝ }
     ensures { λ _. ⌜ AllArrived size mode (now (places .entry)) (now (all .exit)) ⌝ }
 {
     let count = slot_sizes::word_count(size);
@@ -49,10 +50,11 @@ fn receive_all(size: usize, mode: usize, places: &[u8], all: &mut [u8])
 
 // The data of every word put where they belong, and the counts added; or a word has no count.
 fn gather(size: usize, mode: usize, all: &[u8], counts: &[u8], message: &mut [u8]) -> Outcome
-    requires { ⌜ (InRange size mode) × (length (now all) ≡ 2 * size) × (Below 16 (now all)) × (length (now counts) ≡ words size) × (Data size mode (now message)) ⌝ }
+    requires { ⌜ SemiOctetsOf size mode (now all) ⌝ }
+    requires { ⌜ Rooms size mode (now counts) (now message) ⌝ }
     ensures { λ r. ⌜ IsGathered size mode (now (all .entry)) (now (counts .entry)) (now (message .exit)) r ⌝ }
 {
-    let checks = 2 * (mode - 1);
+    let checks = code_word_settings::distance(mode) - 1;
     let mut from: usize = 0;
     let mut at: usize = 0;
     let mut sum: u16 = 0;
@@ -82,7 +84,9 @@ fn correct_with(
     counts: &mut [u8],
     message: &mut [u8],
 ) -> Outcome
-    requires { ⌜ (InRange size mode) × (length (now places) ≡ 2 * size) × (Below 16 (now places)) × (length (now all) ≡ 2 * size) × (length (now counts) ≡ words size) × (Data size mode (now message)) ⌝ }
+    requires { ⌜ SemiOctetsOf size mode (now places) ⌝ }
+    requires { ⌜ Rooms size mode (now counts) (now message) ⌝ }
+    requires { ⌜ length (now all) ≡ 2 * size ⌝ }
     ensures { λ r. ⌜ IsRepairFrom size mode (now (places .entry)) (now (message .exit)) r ⌝ }
 {
     receive_all(size, mode, places, all);
@@ -92,7 +96,8 @@ fn correct_with(
 
 // Every word corrected.
 fn repair(size: usize, mode: usize, places: &[u8], message: &mut [u8]) -> Outcome
-    requires { ⌜ (InRange size mode) × (length (now places) ≡ 2 * size) × (Below 16 (now places)) × (Data size mode (now message)) ⌝ }
+    requires { ⌜ SemiOctetsOf size mode (now places) ⌝ }
+    requires { ⌜ Data size mode (now message) ⌝ }
     ensures { λ r. ⌜ IsRepairFrom size mode (now (places .entry)) (now (message .exit)) r ⌝ }
 {
     let count = slot_sizes::word_count(size);
@@ -110,7 +115,7 @@ fn repair(size: usize, mode: usize, places: &[u8], message: &mut [u8]) -> Outcom
 
 // The data of the slot, with every word corrected.
 pub fn correct_slot(size: usize, mode: usize, slot: &[u8], message: &mut [u8]) -> Outcome
-    requires { ⌜ (InRange size mode) × (length (now slot) ≡ size) × (Data size mode (now message)) ⌝ }
+    requires { ⌜ SlotAndRoom size mode (now slot) (now message) ⌝ }
     ensures { λ r. ⌜ IsRepair size mode (now (slot .entry)) (now (message .exit)) r ⌝ }
 {
     let mut places = [0u8; 800];

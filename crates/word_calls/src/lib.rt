@@ -2,9 +2,6 @@
 // numbers. It stands over `code_word`, and each contract is that of the function called, with the number in place of the enum.
 ghost use Rattle.code_word.specs.Make.{Makes};
 ghost use Rattle.code_word.specs.Correct.{Corrects, CorrectsEach};
-use code_word::Answers;
-use code_word::Correction;
-use code_word::Making;
 
 #[repr(C)]
 pub struct WordAnswer {
@@ -16,29 +13,17 @@ pub struct WordAnswer {
 pub extern "C" fn word_make(word: &mut [u8], mode: u32) -> u8
     ensures { λ r. ⌜ Makes mode (now (word .entry)) (now (word .exit)) r ⌝ }
 {
-    match code_word::make(word, mode) {
-        Making::Made => 0,
-        Making::Unsuitable => 1,
-    }
+    code_word::make(word, mode).number()
 }
 
 #[no_mangle]
 pub extern "C" fn word_correct(word: &mut [u8], mode: u32) -> WordAnswer
     ensures { λ r. ⌜ Corrects mode (now (word .entry)) (now (word .exit)) (r .number) (r .count) ⌝ }
 {
-    match code_word::correct(word, mode) {
-        Correction::Corrected(n) => WordAnswer {
-            number: 0,
-            count: n,
-        },
-        Correction::None => WordAnswer {
-            number: 3,
-            count: 0,
-        },
-        Correction::Unsuitable => WordAnswer {
-            number: 1,
-            count: 0,
-        },
+    let found = code_word::correct(word, mode);
+    WordAnswer {
+        number: found.number(),
+        count: found.count(),
     }
 }
 
@@ -46,8 +31,5 @@ pub extern "C" fn word_correct(word: &mut [u8], mode: u32) -> WordAnswer
 pub extern "C" fn word_correct_each(words: &mut [u8], mode: u32, counts: &mut [u8]) -> u8
     ensures { λ r. ⌜ CorrectsEach mode (now (words .entry)) (now (counts .entry)) (now (words .exit)) (now (counts .exit)) r ⌝ }
 {
-    match code_word::correct_each(words, mode, counts) {
-        Answers::Given => 0,
-        Answers::Unsuitable => 1,
-    }
+    code_word::correct_each(words, mode, counts).number()
 }

@@ -1,7 +1,16 @@
 -- `code_word::correct_each` meets its contract. Assumes nothing.
 use native.Mathlib.Omega.{arith}
 use borrow.Author.Needs.{needs}
-use Rattle.code_word_laws.proofs.Promises.{told-no, told-yes, none-asked, none-fitting, none-fitting-longer, none-elements, dealt-out, all-corrected}
+use Rattle.code_word_laws.proofs.Promises.{
+  told-no,
+  told-yes,
+  none-asked,
+  none-fitting,
+  none-fitting-longer,
+  none-elements,
+  dealt-out,
+  all-corrected,
+}
 use Rattle.code_word.proofs.correct_each.Statement.{statement}
 use Rattle.code_word.proofs.correct_each.Tie as tie
 
@@ -38,13 +47,15 @@ returns-3 c =
     let v = g .before .before in
     let a = v .before .before .before .before .args in
     let l = v .before .if1 .left in
-    none-fitting-longer (a .mode) (a .words .now) (a .counts .now) (omega arith) (told-no _ (g .fits-longer .result) (g .fits-longer .ensures) (c .if3 .taken))
+    none-fitting-longer (a .mode) (a .words .now) (a .counts .now) (omega arith)
+    (told-no _ (g .fits-longer .result) (g .fits-longer .ensures) (c .if3 .taken))
 
 returns-4 : tie.Need-returns-4
 returns-4 c =
     let g = c .before .before .before .before in
     let a = g .before .before .before .before .before .before .args in
-    none-elements (a .mode) (a .words .now) (a .counts .now) (told-no _ (c .before .semi-octets .result) (c .before .semi-octets .ensures) (c .if4 .taken))
+    none-elements (a .mode) (a .words .now) (a .counts .now)
+    (told-no _ (c .before .semi-octets .result) (c .before .semi-octets .ensures) (c .if4 .taken))
 
 sub-most : tie.Need-sub-most
 sub-most c =
@@ -66,11 +77,16 @@ correct-words-requires c κs =
     let a = v .before .before .before .before .args in
     let l = v .before .if1 .left in
     let f = told-yes _ (v .fits2 .result) (v .fits2 .ensures) (g .before .if2 .left) in (
-      c .before .before .before .table .ensures,
-      omega (arith, f .mode-from),
-      omega (arith, f .mode-to),
-      dealt-out (a .mode) (a .words .now) (a .counts .now) (omega arith) f (told-yes _ (g .fits-longer .result) (g .fits-longer .ensures) (d .before .before .before .if3 .left)),
-      told-yes _ (d .before .semi-octets .result) (d .before .semi-octets .ensures) (d .if4 .left),
+      record {
+        table = c .before .before .before .table .ensures;
+        most-from = omega (arith, f .mode-from);
+        most-to = omega (arith, f .mode-to);
+      },
+      (
+        dealt-out (a .mode) (a .words .now) (a .counts .now) (omega arith) f
+            (told-yes _ (g .fits-longer .result) (g .fits-longer .ensures) (d .before .before .before .if3 .left)),
+        told-yes _ (d .before .semi-octets .result) (d .before .semi-octets .ensures) (d .if4 .left),
+      ),
     )
 
 returns-5 : tie.Need-returns-5
@@ -82,8 +98,10 @@ returns-5 c =
     let a = v .before .before .before .before .args in
     let l = v .before .if1 .left in
     all-corrected (a .mode) (a .words .now) (a .counts .now) (omega arith) (m .last .1 .0) (m .last .1 .1 .1 .1 .1 .0)
-    (told-yes _ (v .fits2 .result) (v .fits2 .ensures) (g .before .if2 .left)) (told-yes _ (g .fits-longer .result) (g .fits-longer .ensures) (d .before .before .before .if3 .left))
-    (told-yes _ (d .before .semi-octets .result) (d .before .semi-octets .ensures) (d .if4 .left)) (m .kept .1 .0) (m .kept .1 .1 .1 .1 .1 .0) (m .ensures)
+    (told-yes _ (v .fits2 .result) (v .fits2 .ensures) (g .before .if2 .left))
+    (told-yes _ (g .fits-longer .result) (g .fits-longer .ensures) (d .before .before .before .if3 .left))
+    (told-yes _ (d .before .semi-octets .result) (d .before .semi-octets .ensures) (d .if4 .left)) (m .kept .1 .0)
+    (m .kept .1 .1 .1 .1 .1 .0) (m .ensures)
 
 pub correct-each-spec : {M : Type 1} → statement M
 correct-each-spec =

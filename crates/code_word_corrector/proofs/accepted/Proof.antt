@@ -13,7 +13,8 @@ returns c =
 returns-2 : tie.Need-returns-2
 returns-2 c =
     let a = c .before .before .before .before in
-    accepts-clear (a .args .most) (a .args .count) (a .args .word .now) (c .before .syndromes .result) (a .pre .2) (omega arith) (c .before .syndromes .ensures) (c .clear .ensures)
+    accepts-clear (a .args .most) (a .args .count) (a .args .word .now) (c .before .syndromes .result) (a .pre .most-to) (omega arith)
+    (c .before .syndromes .ensures) (c .clear .ensures)
 
 pub accepted-spec : {M : Type 1} → statement M
 accepted-spec =

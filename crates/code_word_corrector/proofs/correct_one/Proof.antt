@@ -7,7 +7,8 @@ use Rattle.code_word_corrector.proofs.correct_one.Statement.{statement}
 use Rattle.code_word_corrector.proofs.correct_one.Tie as tie
 
 times-requires-2 : tie.Need-times-requires-2
-times-requires-2 c κs = (c .before .before .before .pre .0, c .before .inverted .ensures .1, rw (c .times .ensures) (product-lt _ _))
+times-requires-2 c κs =
+    (c .before .before .before .pre .0 .table, (c .before .inverted .ensures .1, rw (c .times .ensures) (product-lt _ _)))
 
 returns : tie.Need-returns
 returns c = tried-none _ _
@@ -21,7 +22,7 @@ returns-2 c = tried-none _ _
 row-requires : tie.Need-row-requires
 row-requires c κs =
     let d = c .before .before .before .before .before in
-    (d .before .before .before .before .pre .0, c .before .logarithm .ensures .0, rw (d .times2 .ensures) (product-lt _ _))
+    (d .before .before .before .before .pre .0 .table, (c .before .logarithm .ensures .0, rw (d .times2 .ensures) (product-lt _ _)))
 
 returns-3 : tie.Need-returns-3
 returns-3 c =
@@ -29,10 +30,13 @@ returns-3 c =
     let l = q .before .before .before in
     let d = l .before .before .before .before in
     let a = d .before .before .before .before in
-    let p = a .pre in
+    let p = a .pre .0 in
     tried-one _ _ _
-    (taken-off-one (a .args .most) (a .args .word .now) (a .args .s) (l .logarithm .result) (d .times2 .result) (q .before .row .result) (p .1) (p .2) (p .3) (p .4) (p .5)
-    (omega arith) (rw (d .times2 .ensures) (product-lt _ _)) (l .before .before .before .if1 .left) (q .before .row .ensures) (q .clear .ensures .holds (c .before .if3 .taken)))
+    (taken-off-one (a .args .most) (a .args .word .now) (a .args .s) (l .logarithm .result) (d .times2 .result) (q .before .row .result)
+    (p .most-from) (p .most-to)
+    (p .short) (p .semi-octets) (a .pre .1)
+    (omega arith) (rw (d .times2 .ensures) (product-lt _ _)) (l .before .before .before .if1 .left) (q .before .row .ensures)
+    (q .clear .ensures .holds (c .before .if3 .taken)))
 
 returns-4 : tie.Need-returns-4
 returns-4 c = tried-none _ _

@@ -6,7 +6,13 @@ use native.Mathlib.Omega.{arith}
 use borrow.Author.Needs.{needs}
 use Rattle.code_word_laws.specs.Corrector.{takenOff}
 use Rattle.code_word_laws.specs.Word.{apart}
-use Rattle.code_word_laws.proofs.Correcting.{taken-off-length, taken-off-semi-octets, taken-off-clean, correct-word-accepted, correct-word-refused}
+use Rattle.code_word_laws.proofs.Correcting.{
+  taken-off-length,
+  taken-off-semi-octets,
+  taken-off-clean,
+  correct-word-accepted,
+  correct-word-refused,
+}
 use Rattle.code_word_corrector.proofs.correct_word.Statement.{statement}
 use Rattle.code_word_corrector.proofs.correct_word.Tie as tie
 
@@ -14,7 +20,8 @@ returns : tie.Need-returns
 returns c =
     let a = c .before .before .before .before .before in
     let p = a .pre in
-    taken-off-clean (a .args .most) (a .args .word .now) (p .2) (p .3) (p .4) (c .before .before .syndromes .result) (c .before .before .syndromes .ensures) (c .before .clear .ensures .holds (c .if1 .taken))
+    taken-off-clean (a .args .most) (a .args .word .now) (p .most-to) (p .short) (p .semi-octets) (c .before .before .syndromes .result)
+    (c .before .before .syndromes .ensures) (c .before .clear .ensures .holds (c .if1 .taken))
 
 returns-2 : tie.Need-returns-2
 returns-2 c = c .before .before .before .correct-one .ensures .one (c .if2 .taken)
@@ -26,8 +33,15 @@ accepted-requires c κs =
     let m = g .before .before .before .before in
     let a = m .before .before .before .before .before .before .before in
     let p = a .pre in
-    let e : o .last .0 ≡ takenOff (a .args .word .now) (g .error-word .result) = o .ensures .0 ∙ ap (λ (l : List ℕ). takenOff l (g .error-word .result)) (m .correct-one .ensures .kept (g .before .if2 .left)) in
-    (p .0, p .1, p .2, rw e (omega (arith, taken-off-length (a .args .word .now) (g .error-word .result))), rw e (taken-off-semi-octets (a .args .word .now) _ (p .4)))
+    let e : o .last .0 ≡ takenOff (a .args .word .now) (g .error-word .result) = o .ensures .0
+    ∙ ap (λ (l : List ℕ). takenOff l (g .error-word .result)) (m .correct-one .ensures .kept (g .before .if2 .left)) in
+    record {
+      table = p .table;
+      most-from = p .most-from;
+      most-to = p .most-to;
+      short = rw e (omega (arith, taken-off-length (a .args .word .now) (g .error-word .result)));
+      semi-octets = rw e (taken-off-semi-octets (a .args .word .now) _ (p .semi-octets));
+    }
 
 returns-3 : tie.Need-returns-3
 returns-3 c =
@@ -37,8 +51,10 @@ returns-3 c =
     let a = m .before .before .before .before .before .before .before in
     let p = a .pre in
     let k = m .correct-one .ensures .kept (g .before .if2 .left) in
-    correct-word-accepted (a .args .most) (a .args .word .now) (p .2) (p .3) (p .4) (g .error-word .result) (o .result) (o .last .0)
-    (o .ensures .0 ∙ ap (λ (l : List ℕ). takenOff l (g .error-word .result)) k) (o .ensures .1 ∙ ap (λ (l : List ℕ). apart l (o .last .0)) k) (c .before .accepted .ensures) (c .if3 .taken)
+    correct-word-accepted (a .args .most) (a .args .word .now) (p .most-to) (p .short) (p .semi-octets) (g .error-word .result)
+    (o .result) (o .last .0)
+    (o .ensures .0 ∙ ap (λ (l : List ℕ). takenOff l (g .error-word .result)) k)
+    (o .ensures .1 ∙ ap (λ (l : List ℕ). apart l (o .last .0)) k) (c .before .accepted .ensures) (c .if3 .taken)
 
 returns-4 : tie.Need-returns-4
 returns-4 c =
@@ -51,8 +67,10 @@ returns-4 c =
     let a = s .before .before .before in
     let p = a .pre in
     let k = m .correct-one .ensures .kept (g .before .if2 .left) in
-    correct-word-refused (a .args .most) (a .args .word .now) (p .2) (p .3) (p .4) (g .error-word .result) (o .result) (s .syndromes .result) _ (o .last .0) (z .last .0)
-    (o .ensures .0 ∙ ap (λ (l : List ℕ). takenOff l (g .error-word .result)) k) (o .ensures .1 ∙ ap (λ (l : List ℕ). apart l (o .last .0)) k) (z .ensures .0)
+    correct-word-refused (a .args .most) (a .args .word .now) (p .most-to) (p .short) (p .semi-octets) (g .error-word .result) (o .result)
+    (s .syndromes .result) _ (o .last .0) (z .last .0)
+    (o .ensures .0 ∙ ap (λ (l : List ℕ). takenOff l (g .error-word .result)) k)
+    (o .ensures .1 ∙ ap (λ (l : List ℕ). apart l (o .last .0)) k) (z .ensures .0)
     (omega arith) (s .syndromes .ensures) (g .error-word .ensures) (d .before .accepted .ensures) (d .if3 .left)
 
 pub correct-word-spec : {M : Type 1} → statement M

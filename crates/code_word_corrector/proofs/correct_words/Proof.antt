@@ -16,26 +16,32 @@ use Rattle.code_word_corrector.proofs.correct_words.Statement.{statemen
 use Rattle.code_word_corrector.proofs.correct_words.Tie as tie
 
 abbrev Inv-loop : tie.InvT-loop
-Inv-loop t words₀ long over most counts₀ at₀ i₀ words counts at i = (i ≤ length counts₀) × MendedTo (most + 1) (length words₀) (length counts₀) words₀ i at words counts
+Inv-loop t words₀ long over most counts₀ at₀ i₀ words counts at i =
+    (i ≤ length counts₀) × MendedTo (most + 1) (length words₀) (length counts₀) words₀ i at words counts
 
 abbrev μ-loop : tie.MeasureT-loop
 μ-loop t words₀ long over most counts₀ at₀ i₀ words counts at i = length counts₀ - i
 
 -- the length of the word is that of word i
-long-of : (c : lts.After-dealt (dealt-reads.Asked, dealt-reads.Learnt, correct-word-reads.Asked, correct-word-reads.Learnt) reads.Pre reads.Post Inv-loop μ-loop)
-    → c .dealt .result ≡ lengthAt (length (c .before .before .before .before .before .args .words .now)) (length (c .before .before .before .before .before .args .counts .now)) (c .before .before .loop .i)
-long-of c = dealt-is (c .before .before .loop .i) (c .before .before .before .before .before .pre .3) (c .dealt .ensures)
+long-of : (c : lts.After-dealt (dealt-reads.Asked, dealt-reads.Learnt, correct-word-reads.Asked, correct-word-reads.Learnt) reads.Pre
+    reads.Post Inv-loop μ-loop)
+    → c .dealt .result ≡ lengthAt (length (c .before .before .before .before .before .args .words .now))
+    (length (c .before .before .before .before .before .args .counts .now)) (c .before .before .loop .i)
+long-of c = dealt-is (c .before .before .loop .i) (c .before .before .before .before .before .pre .1 .0) (c .dealt .ensures)
 
 -- the end of the word lies in the words
-inside : (c : lts.After-dealt (dealt-reads.Asked, dealt-reads.Learnt, correct-word-reads.Asked, correct-word-reads.Learnt) reads.Pre reads.Post Inv-loop μ-loop)
+inside : (c : lts.After-dealt (dealt-reads.Asked, dealt-reads.Learnt, correct-word-reads.Asked, correct-word-reads.Learnt) reads.Pre
+    reads.Post Inv-loop μ-loop)
     → c .before .before .loop .at + c .dealt .result ≤ length (c .before .before .loop .words)
-inside c = batch-inside _ _ _ _ _ _ _ _ (c .before .before .loop .inv .1) (c .dealt .result) (long-of c) (omega (arith, c .before .before .loop .inv .1 .as-many))
+inside c =
+    batch-inside _ _ _ _ _ _ _ _ (c .before .before .loop .inv .1) (c .dealt .result) (long-of c)
+    (omega (arith, c .before .before .loop .inv .1 .as-many))
 
 loop-holds : tie.Need-loop-holds Inv-loop μ-loop
 loop-holds c = (search needs, batch-first _ (c .before .before .args .words .now) (c .before .before .args .counts .now))
 
 dealt-requires : tie.Need-dealt-requires Inv-loop μ-loop
-dealt-requires c κs = dealt-short _ _ _ _ (c .before .before .before .before .pre .3)
+dealt-requires c κs = dealt-short _ _ _ _ (c .before .before .before .before .pre .1 .0)
 
 add-end : tie.Need-add-end Inv-loop μ-loop
 add-end c = record { fits = omega (arith, inside c) }
@@ -51,13 +57,14 @@ correct-word-requires c κs =
     let p = s .pre in
     let w = h .loop .words in
     let e : h .loop .at + d .dealt .result - h .loop .at ≡ d .dealt .result = omega arith in
-    let i-in : h .loop .i < length (s .args .counts .now) = omega (arith, h .loop .inv .1 .as-many) in (
-      p .0,
-      p .1,
-      p .2,
-      rw e (omega (arith, p .3 .short (h .loop .i) i-in, long-of d, length-take (d .dealt .result) (drop (h .loop .at) w))),
-      rw e (batch-semi _ _ _ _ _ _ _ _ (h .loop .inv .1) (d .dealt .result) (long-of d) i-in (p .4)),
-    )
+    let i-in : h .loop .i < length (s .args .counts .now) = omega (arith, h .loop .inv .1 .as-many) in
+    record {
+      table = p .0 .table;
+      most-from = p .0 .most-from;
+      most-to = p .0 .most-to;
+      short = rw e (omega (arith, p .1 .0 .short (h .loop .i) i-in, long-of d, length-take (d .dealt .result) (drop (h .loop .at) w)));
+      semi-octets = rw e (batch-semi _ _ _ _ _ _ _ _ (h .loop .inv .1) (d .dealt .result) (long-of d) i-in (p .1 .1));
+    }
 
 slice-write-counts : tie.Need-slice-write-counts Inv-loop μ-loop
 slice-write-counts c =
@@ -78,9 +85,12 @@ loop-again c =
     let l = d .dealt .result in
     let e : h .loop .at + l - h .loop .at ≡ l = omega arith in
     let i-in : h .loop .i < length (h .before .before .before .args .counts .now) = omega (arith, k .as-many) in
-    let kept : length (m .last .1 .0) ≡ l = m .kept .1 .0 ∙ rw e (length-take-le l (drop (h .loop .at) (h .loop .words)) (omega (arith, inside d, length-drop (h .loop .at) (h .loop .words)))) in (
+    let kept : length (m .last .1 .0) ≡ l = m .kept .1 .0
+    ∙ rw e (length-take-le l (drop (h .loop .at) (h .loop .words)) (omega (arith, inside d, length-drop (h .loop .at) (h .loop .words))))
+    in (
       omega (arith, k .as-many),
-      rw (e, add-one (h .loop .i)) (batch-next _ _ _ _ _ _ _ _ k l (long-of d) i-in (m .last .1 .0) (m .result) kept (rw e at (m .ensures))),
+      rw (e, add-one (h .loop .i))
+          (batch-next _ _ _ _ _ _ _ _ k l (long-of d) i-in (m .last .1 .0) (m .result) kept (rw e at (m .ensures))),
     )
 
 same-length : tie.Need-same-length Inv-loop μ-loop

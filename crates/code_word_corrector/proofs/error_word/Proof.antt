@@ -8,7 +8,8 @@ returns : tie.Need-returns
 returns c =
     let a = c .before .before in
     let r = c .before .find-locator in
-    error-word-is (a .args .most) (a .args .s) (r .result .0) (r .result .1) (r .result .2) (r .result .3) (c .errors .result) (a .pre .1) (r .ensures .locator) (c .errors .ensures)
+    error-word-is (a .args .most) (a .args .s) (r .result .0) (r .result .1) (r .result .2) (r .result .3) (c .errors .result)
+    (a .pre .most-from) (r .ensures .locator) (c .errors .ensures)
 
 pub error-word-spec : {M : Type 1} → statement M
 error-word-spec =

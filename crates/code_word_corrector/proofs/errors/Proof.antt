@@ -4,6 +4,7 @@ use Prim.Native.Nat.{suc}
 use Prim.Native.Nat.{_≤_, _<_, _-_}
 use native.Mathlib.Omega.{arith}
 use borrow.Author.Needs.{needs}
+use Rattle.code_word_laws.proofs.Packed.{six-elements}
 use Rattle.code_word_laws.proofs.Turns.{Held, held-first, held-next, held-last}
 use Rattle.code_word_corrector.proofs.errors.Statement.{statement}
 use Rattle.code_word_corrector.proofs.errors.Tie as tie
@@ -19,22 +20,23 @@ loop-holds c =
     let a = c .before .before .before .args in
     let p = c .before .before .before .pre in (
       search needs,
-      p .6,
-      p .5,
-      p .4,
-      held-first (a .r1) (a .r2) (a .r3) (a .s1) (a .s2) (a .u) (c .before .before .row .ensures) (c .before .row2 .ensures) (c .row3 .ensures),
+      p .third,
+      p .second,
+      p .first,
+      held-first (a .r1) (a .r2) (a .r3) (a .s1) (a .s2) (a .u) (c .before .before .row .ensures) (c .before .row2 .ensures)
+          (c .row3 .ensures),
     )
 
 tripled-requires : tie.Need-tripled-requires Inv-loop μ-loop
 tripled-requires c κs =
     let h = c .before .loop .inv in
     let p = c .before .before .before .before .before .pre in
-    (p .0, p .2, h .2, p .3, h .3, p .1, h .1)
+    (p .table, six-elements (p .locator .1 .0) (h .2) (p .locator .1 .1 .0) (h .3) (p .locator .0) (h .1))
 
 row-requires-4 : tie.Need-row-requires-4 Inv-loop μ-loop
 row-requires-4 c κs =
     let p = c .before .before .before .before .before .before .pre in
-    (p .0, omega (arith, c .before .before .loop .inv .0), c .tripled .ensures .1)
+    (p .table, (omega (arith, c .before .before .loop .inv .0), c .tripled .ensures .1))
 
 loop-again : tie.Need-loop-again Inv-loop μ-loop
 loop-again c =
@@ -46,7 +48,8 @@ loop-again c =
       h .loop .inv .1,
       h .loop .inv .2,
       rw next
-          (held-next (a .r1) (a .r2) (a .r3) (a .s1) (a .s2) (a .u) (12 - h .loop .n) (h .loop .n) (omega arith) (omega arith) (c .before .tripled .ensures .0) (c .row4 .ensures) (h .loop .inv .4)),
+          (held-next (a .r1) (a .r2) (a .r3) (a .s1) (a .s2) (a .u) (12 - h .loop .n) (h .loop .n) (omega arith) (omega arith)
+          (c .before .tripled .ensures .0) (c .row4 .ensures) (h .loop .inv .4)),
     )
 
 returns : tie.Need-returns Inv-loop μ-loop

@@ -20,8 +20,11 @@ loop-holds c = (search needs, taken-first (c .args .word .now) (c .args .e))
 loop-again : tie.Need-loop-again Inv-loop μ-loop
 loop-again c =
     let h = c .before .before in
-    let a = h .before .args in
-    (search needs, taken-next (a .word .now) (a .e) (h .loop .i) (h .loop .rest) (h .loop .count) (h .loop .word) (omega arith) refl (h .loop .inv .1))
+    let a = h .before .args in (
+      search needs,
+      taken-next (a .word .now) (a .e) (h .loop .i) (h .loop .rest) (h .loop .count) (h .loop .word) (omega arith) refl
+          (h .loop .inv .1),
+    )
 
 same-length : tie.Need-same-length Inv-loop μ-loop
 same-length c = c .before .loop .inv .1 .long
@@ -29,7 +32,8 @@ same-length c = c .before .loop .inv .1 .long
 returns : tie.Need-returns Inv-loop μ-loop
 returns c =
     let h = c .before in
-    taken-last (h .before .args .word .now) (h .before .args .e) (h .loop .i) (h .loop .rest) (h .loop .count) (h .loop .word) (omega arith) (h .loop .inv .1)
+    taken-last (h .before .args .word .now) (h .before .args .e) (h .loop .i) (h .loop .rest) (h .loop .count) (h .loop .word)
+    (omega arith) (h .loop .inv .1)
 
 pub take-off-spec : {M : Type 1} → statement M
 take-off-spec =

@@ -13,7 +13,9 @@ use Rattle.code_word_locator.proofs.inverted.Tie as tie
 returns : tie.Need-returns
 unfolding inverses
 returns c =
-    let e : getD inverses (c .wide .result) 0 ≡ inverse (c .before .args .a) = ap (λ (i : ℕ). getD inverses i 0) (c .wide .ensures) ∙ inverses-at (c .before .args .a) (omega arith) in
+    let e : getD inverses (c .wide .result) 0 ≡ inverse (c .before .args .a) =
+    ap (λ (i : ℕ). getD inverses i 0) (c .wide .ensures)
+    ∙ inverses-at (c .before .args .a) (omega arith) in
     (e, rw e (inverse-lt (c .before .args .a)))
 
 pub inverted-spec : {M : Type 1} → statement M

@@ -12,22 +12,25 @@ inverted-requires : tie.Need-inverted-requires
 inverted-requires c κs = nibble-lt 1 (c .args .s)
 
 times-requires : tie.Need-times-requires
-times-requires c κs = (c .before .pre .0, c .inverted .ensures .1, nibble-lt 2 (c .before .args .s))
+times-requires c κs = (c .before .pre .0 .table, (c .inverted .ensures .1, nibble-lt 2 (c .before .args .s)))
 
 times-requires-2 : tie.Need-times-requires-2
 times-requires-2 c κs =
-    (c .before .before .before .pre .0, rw (c .before .times .ensures) (product-lt _ _), nibble-lt 2 (c .before .before .before .args .s))
+    let s = c .before .before .before in
+    (s .pre .0 .table, (rw (c .before .times .ensures) (product-lt _ _), nibble-lt 2 (s .args .s)))
 
 returns : tie.Need-returns
 returns c =
     let a = c .before .before .before .before in
-    locator-one-done (a .args .s) (a .pre .1) (a .pre .2) (a .pre .3) (a .pre .4) (c .before .before .before .inverted .ensures .0) (c .before .before .times .ensures)
+    locator-one-done (a .args .s) (a .pre .0 .most-from) (a .pre .0 .most-to) (a .pre .1 .third) (a .pre .1 .second)
+    (c .before .before .before .inverted .ensures .0) (c .before .before .times .ensures)
     (rw (c .times2 .ensures) (product-lt _ _)) (λ e. c .times2 .ensures) (λ n. absurd (omega arith))
 
 returns-2 : tie.Need-returns-2
 returns-2 c =
     let a = c .before .before .before in
-    locator-one-done (a .args .s) (a .pre .1) (a .pre .2) (a .pre .3) (a .pre .4) (c .before .before .inverted .ensures .0) (c .before .times .ensures)
+    locator-one-done (a .args .s) (a .pre .0 .most-from) (a .pre .0 .most-to) (a .pre .1 .third) (a .pre .1 .second)
+    (c .before .before .inverted .ensures .0) (c .before .times .ensures)
     (nibble-lt 3 (a .args .s)) (λ e. absurd (omega arith)) (λ n. refl)
 
 pub locator-one-spec : {M : Type 1} → statement M

@@ -21,13 +21,16 @@ row-requires : tie.Need-row-requires Inv-loop μ-loop
 row-requires c κs =
     let h = c .before .before in
     let a = h .before .before in
-    (a .pre .0, omega arith, semi-octet-at (a .args .word .now) (h .loop .i) (a .pre .1))
+    (a .pre .0, (omega arith, semi-octet-at (a .args .word .now) (h .loop .i) (a .pre .1 .0)))
 
 loop-again : tie.Need-loop-again Inv-loop μ-loop
 loop-again c =
     let h = c .before .before .before in
-    let a = h .before .before in
-    (search needs, syndromes-next (a .args .word .now) (h .loop .i) (h .loop .s) (c .row .result) (c .before .before .loop-test .taken) (a .pre .1) (h .loop .inv .1) (c .row .ensures))
+    let a = h .before .before in (
+      search needs,
+      syndromes-next (a .args .word .now) (h .loop .i) (h .loop .s) (c .row .result) (c .before .before .loop-test .taken)
+          (a .pre .1 .0) (h .loop .inv .1) (c .row .ensures),
+    )
 
 returns : tie.Need-returns Inv-loop μ-loop
 returns c =

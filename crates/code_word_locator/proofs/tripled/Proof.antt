@@ -7,7 +7,8 @@ use Rattle.code_word_locator.proofs.tripled.Tie as tie
 returns : tie.Need-returns
 returns c =
     let a = c .before .before .before .args in
-    tripled-is (a .a) (a .x) (a .b) (a .y) (a .c) (a .z) (c .before .before .times .ensures) (c .before .times2 .ensures) (c .times3 .ensures)
+    tripled-is (a .a) (a .x) (a .b) (a .y) (a .c) (a .z) (c .before .before .times .ensures) (c .before .times2 .ensures)
+    (c .times3 .ensures)
 
 pub tripled-spec : {M : Type 1} → statement M
 tripled-spec =

@@ -1,4 +1,5 @@
--- `code_word_settings::semi_octets` meets its contract: each turn takes in the bits of the element in front of those taken in before. Assumes nothing.
+-- `code_word_settings::semi_octets` meets its contract: each turn takes in the bits of the element in front of those taken in before.
+-- Assumes nothing.
 use mathlib.Core.Path.{_≡_}
 use Prim.Native.Nat.{_≤_}
 use native.Mathlib.Omega.{arith}

@@ -10,35 +10,33 @@ use Rattle.slot_interleaving.proofs.copy_part.Statement.{statement}
 use Rattle.slot_interleaving.proofs.copy_part.Tie as tie
 
 abbrev Inv-loop : tie.InvT-loop
-Inv-loop from at out₀ k₀ out k = (k ≤ length out₀) × (length out ≡ length out₀) × Filled (λ (j : ℕ). getD from (at + j) 0) (length out₀) k out
+Inv-loop from at out₀ k₀ out k = (k ≤ length out₀) × Filled (λ (j : ℕ). getD from (at + j) 0) (length out₀) k out
 
 abbrev μ-loop : tie.MeasureT-loop
 μ-loop from at out₀ k₀ out k = length out₀ - k
 
 loop-holds : tie.Need-loop-holds Inv-loop μ-loop
-loop-holds c =
-    let a = c .args in
-    (omega arith, refl, filled-first (λ (j : ℕ). getD (a .from .now) (a .at + j) 0) (length (a .out .now)) (a .out .now) refl)
+loop-holds c = let a = c .args in (
+  omega arith,
+  filled-first (λ (j : ℕ). getD (a .from .now) (a .at + j) 0) (length (a .out .now))
+      (a .out .now) refl,
+)
 
 loop-again : tie.Need-loop-again Inv-loop μ-loop
 loop-again c =
     let h = c .before .before in
     let a = h .before .args in
-    let g = filled-next (λ (j : ℕ). getD (a .from .now) (a .at + j) 0) (length (a .out .now)) (h .loop .k) (h .loop .out) (getD (a .from .now) (a .at + h .loop .k) 0) (h .loop .inv .2) (omega arith) refl in
-    (omega arith, g .long, g)
-
-same-length : tie.Need-same-length Inv-loop μ-loop
-same-length c = c .before .loop .inv .1
+    (omega arith, filled-next _ (length (a .out .now)) (h .loop .k) (h .loop .out) _ (h .loop .inv .1) (omega arith) refl)
 
 returns : tie.Need-returns Inv-loop μ-loop
 returns c =
     let h = c .before in
     let a = h .before .args in
-    copy-is (a .from .now) (a .at) (length (a .out .now)) (h .loop .k) (h .loop .out) (omega arith) (omega arith) (h .loop .inv .2)
+    copy-is (a .from .now) (a .at) (length (a .out .now)) (h .loop .k) (h .loop .out) (omega arith) (omega arith) (h .loop .inv .1)
 
 pub copy-part-spec : {M : Type 1} → statement M
 copy-part-spec =
     tie.close
     (tie.spec
     Inv-loop μ-loop loop-holds (λ c. search needs) (λ c. search needs) (λ c. search needs) (λ c. search needs)
-    (λ c. search needs) loop-again same-length returns)
+    (λ c. search needs) loop-again (λ c. search needs) returns)

@@ -10,8 +10,8 @@ returns c =
     let d = c .before .before .before .before .before .before .before .scatter-data in
     let k = c .before .before .scatter-checks in
     let a = s .args in
-    word-scattered (a .size) (a .mode) (a .i) (d .result) (a .rows .now) (a .message .now) (a .places .now) (d .last .1 .1 .1 .1 .1 .1 .0) (k .last .1 .1 .1 .1 .1 .0)
-    (s .pre .0) (s .pre .1) (s .pre .2) (s .pre .3) (s .pre .4) (d .ensures .0) (d .ensures .1) (k .ensures)
+    word-scattered (a .size) (a .mode) (a .i) (d .result) (a .rows .now) (a .message .now) (a .places .now) (d .last .1 .1 .1 .1 .1 .1 .0)
+    (k .last .1 .1 .1 .1 .1 .0) (s .pre .0) (s .pre .1) (d .ensures .0) (d .ensures .1) (k .ensures)
 
 pub place-word-spec : {M : Type 1} → statement M
 place-word-spec =

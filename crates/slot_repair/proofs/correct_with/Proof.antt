@@ -1,30 +1,43 @@
 -- `slot_repair::correct_with` meets its contract. What is left of each word is its answer, whatever the call's number. Assumes nothing.
 use borrow.Author.Needs.{needs}
 use Rattle.code_word.specs.Correct.{batchNumberOf}
-use Rattle.slot_repair.proofs.BatchSteps.{answered, repaired}
+use Rattle.slot_repair.proofs.BatchSteps.{Answered, answered, repaired}
 use Rattle.slot_repair.proofs.correct_with.Statement.{statement}
 use Rattle.slot_repair.proofs.correct_with.Tie as tie
 
+abbrev begin : tie.After-receive-all → tie.Start
+begin c = c .before .before .before .before .before .before
+
+abbrev received : tie.After-correct-each → tie.After-receive-all
+received c = c .before .before .before .before .before
+
+-- what is left of each word is its answer
+each : (c : tie.After-correct-each) → let a = begin (received c) .args in
+    Answered (a .size) (a .mode) (a .places .now) (c .correct-each .last .0) (c .correct-each .last .1 .1 .0)
+each c =
+    let s = begin (received c) in
+    let a = s .args in
+    let r = received c .receive-all in
+    let e = c .correct-each in
+    answered (a .size) (a .mode) (a .places .now) (r .last .1 .1 .1 .0) (a .counts .now) (s .pre .0 .range) (r .ensures)
+    (s .pre .1 .0 .many)
+    (e .last .0) (e .last .1 .1 .0) (batchNumberOf (e .result)) (e .ensures)
+
 gather-requires : tie.Need-gather-requires
 gather-requires c κs =
-    let s = c .before .before .before .before .before .before .before .before .before .before .before .before .before .before .before .before .before .before in
-    let a = s .args in
-    let r = c .before .before .before .before .before .before .before .before .before .before .before .before .receive-all in
-    let e = c .before .before .before .before .before .before .before .correct-each in
-    let w = answered (a .size) (a .mode) (a .places .now) (r .last .1 .1 .1 .0) (a .counts .now) (s .pre .0) (r .ensures) (s .pre .4)
-    (e .last .0) (e .last .1 .1 .0) (batchNumberOf (e .result)) (e .ensures) in
-    (s .pre .0, w .long, w .below, w .many, s .pre .5)
+    let e = c .before .before .before .before .before .before .before in
+    let s = begin (received e) in (
+      record { range = s .pre .0 .range; long = each e .long; below = each e .below },
+      record { many = each e .many; given = s .pre .1 .0 .given },
+    )
 
 returns : tie.Need-returns
 returns c =
-    let s = c .before .before .before .before .before .before .before .before .before .before .before .before .before .before .before .before .before .before .before .before .before in
-    let a = s .args in
-    let r = c .before .before .before .before .before .before .before .before .before .before .before .before .before .before .before .receive-all in
-    let e = c .before .before .before .before .before .before .before .before .before .before .correct-each in
-    let w = answered (a .size) (a .mode) (a .places .now) (r .last .1 .1 .1 .0) (a .counts .now) (s .pre .0) (r .ensures) (s .pre .4)
-    (e .last .0) (e .last .1 .1 .0) (batchNumberOf (e .result)) (e .ensures) in
-    repaired (a .size) (a .mode) (a .places .now) (e .last .0) (e .last .1 .1 .0)
-    (c .before .before .gather .last .1 .1 .1 .1 .0) (c .before .before .gather .result) (s .pre .0) w (c .before .before .gather .ensures)
+    let e = c .before .before .before .before .before .before .before .before .before .before in
+    let s = begin (received e) in
+    let g = c .before .before .gather in
+    repaired (s .args .size) (s .args .mode) (s .args .places .now) (e .correct-each .last .0) (e .correct-each .last .1 .1 .0)
+    (g .last .1 .1 .1 .1 .0) (g .result) (s .pre .0 .range) (each e) (g .ensures)
 
 pub correct-with-spec : {M : Type 1} → statement M
 correct-with-spec =

@@ -1,6 +1,7 @@
--- `slot_repair::gather` meets its contract. The loop has the data of the first words where they belong, and the sum of their counts. Assumes nothing.
+-- `slot_repair::gather` meets its contract. The loop has the data of the first words where they belong, and the sum of their counts.
+-- Assumes nothing.
 use mathlib.Core.Path.{_≡_, refl, sym, _∙_}
-use Prim.Native.Nat.{_≤_, _-_, _*_, _<_}
+use Prim.Native.Nat.{_≤_, _-_, _+_, _*_, _<_}
 use native.Mathlib.Omega.{arith}
 use lib.ListN.{length, getD}
 use borrow.Author.Needs.{needs}
@@ -9,127 +10,135 @@ use Rattle.laws.proofs.Tab.{total-none}
 use Rattle.slot_laws.specs.Sizes.{words, wordLength, dataLength}
 use Rattle.slot_repair.specs.Inner.{GatheredTo}
 use Rattle.slot_laws.proofs.Sizes.{words-high}
-use Rattle.slot_interleaving.proofs.PlaceSteps.{at-next, start-first}
-use Rattle.slot_laws.proofs.RoomSteps.{before-end}
-use Rattle.slot_repair.proofs.BatchSteps.{take-fits, next-from, gathered-next, gathered-first}
+use Rattle.slot_laws.proofs.RoomSteps.{WordPart, start-first, next-start, before-end, end-few}
+use Rattle.slot_repair.proofs.BatchSteps.{ends-in, take-fits, next-from, gathered-next, gathered-first}
 use Rattle.slot_repair.proofs.gather.Statement.{statement}
 use Rattle.slot_repair.proofs.gather.Tie as tie
 
 abbrev Inv-loop : tie.InvT-loop
-Inv-loop size mode all counts message₀ checks from₀ at₀ sum₀ i₀ message from at sum i = (i ≤ length counts) × (from ≤ 15 * i) × (at ≤ 15 * i) × (sum ≤ 3 * i) × (from ≡ total (wordLength size) i) × (at ≡ total (dataLength size mode) i) × GatheredTo size mode all counts message i sum
+Inv-loop size mode all counts message₀ checks from₀ at₀ sum₀ i₀ message from at sum i =
+    (i ≤ length counts) × (sum ≤ 3 * i) × (from ≡ total (wordLength size) i) × (at ≡ total (dataLength size mode) i)
+    × GatheredTo size mode all counts message i sum
 
 abbrev μ-loop : tie.MeasureT-loop
 μ-loop size mode all counts message₀ checks from₀ at₀ sum₀ i₀ message from at sum i = length counts - i
 
 loop-holds : tie.Need-loop-holds Inv-loop μ-loop
 loop-holds c =
-    let s = c .before .before .before in
-    let a = s .args in
-    (omega arith, omega arith, omega arith, omega arith, sym (total-none (wordLength (a .size))), start-first (a .size) (a .mode), gathered-first (a .size) (a .mode) (a .all .now) (a .counts .now) (a .message .now) (s .pre .4))
+    let s = c .before .before .before .before in
+    let a = s .args in (
+      omega arith,
+      omega arith,
+      sym (total-none (wordLength (a .size))),
+      start-first (a .size) (a .mode),
+      gathered-first (a .size) (a .mode) (a .all .now) (a .counts .now) (a .message .now) (s .pre .1 .given),
+    )
+
+abbrev begin : tie.At-loop Inv-loop μ-loop → tie.Start Inv-loop μ-loop
+begin h = h .before .before .before .before .before
 
 cast-if1 : tie.Need-cast-if1 Inv-loop μ-loop
 cast-if1 c = record { fits = omega (arith, c .shared-slice-known3 .given (c .before .before .loop .i) .fits) }
 
 same-length : tie.Need-same-length Inv-loop μ-loop
-same-length c = c .before .before .before .loop .inv .6 .given .long ∙ sym (c .before .before .before .before .before .before .before .pre .4 .long)
+same-length c = let h = c .before .before .before in h .loop .inv .4 .given .long ∙ sym (begin h .pre .1 .given .long)
 
 returns : tie.Need-returns Inv-loop μ-loop
-returns c = record { word = c .before .before .before .loop .i; inside = omega (arith, c .before .before .before .before .before .before .before .pre .3, c .before .before .loop-test .taken); none = omega (arith, c .if1 .taken) }
+returns c =
+    let h = c .before .before .before in
+    record {
+      word = h .loop .i;
+      inside = omega (arith, begin h .pre .1 .many, c .before .before .loop-test .taken);
+      none = omega (arith, c .if1 .taken);
+    }
+
+abbrev turn : tie.After-word-length Inv-loop μ-loop → tie.At-loop Inv-loop μ-loop
+turn c = c .before .before .before .before
+
+-- the room for the data of the word that is gathered
+part : (c : tie.After-word-length Inv-loop μ-loop) → let h = turn c in let a = begin h .args in
+    WordPart (a .size) (a .mode) (h .loop .i) (h .loop .at) (c .word-length .result)
+    (h .loop .at + (c .word-length .result - (h .before .distance .result - 1))) (h .loop .message)
+part c =
+    let h = turn c in
+    let s = begin h in
+    record {
+      range = s .pre .0 .range;
+      inside = omega (arith, s .pre .1 .many, c .before .before .before .loop-test .taken);
+      start = h .loop .inv .3;
+      given = h .loop .inv .4 .given;
+      is = c .word-length .ensures .0;
+      end = omega (arith, h .before .distance .ensures .is);
+    }
+
+-- the word itself ends before the end of the slot
+ends : (c : tie.After-word-length Inv-loop μ-loop) → turn c .loop .from + c .word-length .result ≤ 2 * begin (turn c) .args .size
+ends c = let h = turn c in ends-in (part c) (begin h .pre .0) (h .loop .inv .2) (h .before .distance .ensures)
 
 add-e : tie.Need-add-e Inv-loop μ-loop
-add-e c =
-    let s = c .before .before .before .before .before .before .before .before in
-    let a = s .args in
-    let h = c .before .before .before .before .loop in
-    let w = c .word-length in
-    let t = c .before .before .before .loop-test .taken in
-    let l : h .i < words (a .size) = omega (arith, s .pre .3, t) in
-    record { fits = omega (arith, words-high (a .size), s .pre .0 .size-to, l, h .inv .2, w .ensures .2) }
+add-e c = record { fits = omega (arith, end-few (part c)) }
 
 add-copy-part : tie.Need-add-copy-part Inv-loop μ-loop
 add-copy-part c =
-    let s = c .before .before .before .before .before .before .before .before in
-    let a = s .args in
-    let h = c .before .before .before .before .loop in
-    let w = c .word-length in
-    let t = c .before .before .before .loop-test .taken in
-    let l : h .i < words (a .size) = omega (arith, s .pre .3, t) in
-    record { fits = omega (arith, words-high (a .size), s .pre .0 .size-to, l, h .inv .1, s .pre .0 .mode-to) }
+    let h = turn c in
+    record { fits = omega (arith, ends c, begin h .pre .0 .range .size-to, h .before .distance .ensures .to) }
 
 part-copy-part-end : tie.Need-part-copy-part-end Inv-loop μ-loop
-part-copy-part-end c =
-    let s = c .before .before .before .before .before .before .before .before in
-    let a = s .args in
-    let h = c .before .before .before .before .loop in
-    let w = c .word-length in
-    let t = c .before .before .before .loop-test .taken in
-    let l : h .i < words (a .size) = omega (arith, s .pre .3, t) in
-    before-end _ _ _ _ _ _ _ (s .pre .0) l (h .inv .5) (h .inv .6 .given) (w .ensures .0) refl
+part-copy-part-end c = before-end (part c)
 
 copy-part-requires : tie.Need-copy-part-requires Inv-loop μ-loop
 copy-part-requires c κs =
-    let s = c .before .before .before .before .before .before .before .before .before in
-    let a = s .args in
-    let h = c .before .before .before .before .before .loop in
-    let w = c .before .word-length in
-    let t = c .before .before .before .before .loop-test .taken in
-    let l : h .i < words (a .size) = omega (arith, s .pre .3, t) in
-    take-fits _ _ _ _ _ _ _ (s .pre .0) l (h .inv .5) (h .inv .6 .given) (w .ensures .0) refl _ (a .all .now) (a .counts .now) (s .pre .2) (h .inv .4) (s .pre .1)
+    let h = turn (c .before) in
+    take-fits (part (c .before)) (begin h .pre .0) (h .loop .inv .2) (h .before .distance .ensures)
+
+-- a word with a count has less than its mode
+few : (c : tie.Else1 Inv-loop μ-loop) → let h = c .before .before .before in
+    getD (begin h .args .counts .now) (h .loop .i) 0 < begin h .args .mode
+few c = omega (arith, c .if1 .left)
 
 add-sum : tie.Need-add-sum Inv-loop μ-loop
 add-sum c =
-    let s = c .before .before .before .before .before .before .before .before .before .before .before .before in
-    let a = s .args in
-    let h = c .before .before .before .before .before .before .before .before .loop in
-    let w = c .before .before .before .before .word-length in
-    let t = c .before .before .before .before .before .before .before .loop-test .taken in
-    let l : h .i < words (a .size) = omega (arith, s .pre .3, t) in
-    record { fits = omega (arith, words-high (a .size), s .pre .0 .size-to, l, h .inv .3, s .pre .0 .mode-to, c .before .before .before .before .before .if1 .left) }
+    let l = c .before .before .before .before in
+    let h = turn l in
+    let r = begin h .pre .0 .range in
+    let w = words-high (begin h .args .size) in
+    record { fits = omega (arith, r .size-to, part l .inside, h .loop .inv .1, r .mode-to, few (l .before)) }
 
 add-from : tie.Need-add-from Inv-loop μ-loop
 add-from c =
-    let s = c .before .before .before .before .before .before .before .before .before .before .before .before in
-    let a = s .args in
-    let h = c .before .before .before .before .before .before .before .before .loop in
-    let w = c .before .before .before .before .word-length in
-    let t = c .before .before .before .before .before .before .before .loop-test .taken in
-    let l : h .i < words (a .size) = omega (arith, s .pre .3, t) in
-    record { fits = omega (arith, words-high (a .size), s .pre .0 .size-to, l, h .inv .1, w .ensures .2) }
+    let l = c .before .before .before .before in
+    record { fits = omega (arith, ends l, begin (turn l) .pre .0 .range .size-to) }
 
 loop-again : tie.Need-loop-again Inv-loop μ-loop
 loop-again c =
-    let s = c .before .before .before .before .before .before .before .before .before .before .before .before in
-    let a = s .args in
-    let h = c .before .before .before .before .before .before .before .before .loop in
-    let w = c .before .before .before .before .word-length in
-    let t = c .before .before .before .before .before .before .before .loop-test .taken in
-    let l : h .i < words (a .size) = omega (arith, s .pre .3, t) in
-    let m = c .before .before .copy-part in
-    let f : getD (a .counts .now) (h .i) 0 < a .mode = omega (arith, c .before .before .before .before .before .if1 .left) in (
-      omega (arith, t),
-      omega (arith, h .inv .1, w .ensures .2),
-      omega (arith, h .inv .2, w .ensures .2),
-      omega (arith, h .inv .3, f, s .pre .0 .mode-to),
-      next-from (a .size) (h .i) (h .from) (w .result) (h .inv .4) (w .ensures .0),
-      at-next (a .size) (a .mode) (h .i) (h .at) (w .result) (h .inv .5) (w .ensures .0),
-      gathered-next _ _ _ _ _ _ _ (s .pre .0) l (h .inv .5) (h .inv .6 .given) (w .ensures .0) refl _ (a .all .now) (a .counts .now) (s .pre .2) (h .inv .4) (s .pre .1) (m .last .1 .1 .0) (m .ensures) (h .sum) (getD (a .counts .now) (h .i) 0) (h .inv .6) refl f,
+    let l = c .before .before .before .before in
+    let h = turn l in
+    let s = begin h in
+    let w = l .word-length in
+    let f = few (l .before) in (
+      omega (arith, l .before .before .before .loop-test .taken),
+      omega (arith, h .loop .inv .1, f, s .pre .0 .range .mode-to),
+      next-from (s .args .size) (h .loop .i) (h .loop .from) (w .result) (h .loop .inv .2) (w .ensures .0),
+      next-start (part l),
+      gathered-next (part l) (s .pre .0) (h .loop .inv .2) (h .before .distance .ensures) (c .before .before .copy-part .ensures)
+          (h .loop .inv .4) refl f,
     )
 
 same-length-2 : tie.Need-same-length-2 Inv-loop μ-loop
-same-length-2 c = c .before .loop .inv .6 .given .long ∙ sym (c .before .before .before .before .before .pre .4 .long)
+same-length-2 c = c .before .loop .inv .4 .given .long ∙ sym (begin (c .before) .pre .1 .given .long)
 
 returns-2 : tie.Need-returns-2 Inv-loop μ-loop
 returns-2 c =
-    let s = c .before .before .before .before .before in
+    let s = begin (c .before) in
     let h = c .before .loop in
-    let e : h .i ≡ words (s .args .size) = omega (arith, h .inv .0, s .pre .3, c .loop-test .left) in
-    rw e at (h .inv .6)
+    let e : h .i ≡ words (s .args .size) = omega (arith, h .inv .0, s .pre .1 .many, c .loop-test .left) in
+    rw e at (h .inv .4)
 
 pub gather-spec : {M : Type 1} → statement M
 gather-spec =
     tie.close
     (tie.spec
-    Inv-loop μ-loop (λ c. search needs) (λ c. search needs) loop-holds (λ c. search needs) cast-if1
+    Inv-loop μ-loop (λ c κs. search needs) (λ c. search needs) loop-holds (λ c. search needs) cast-if1
     same-length returns (λ c κs. search needs) (λ c. search needs) add-e add-copy-part (λ c. search needs)
     (λ c. search needs) part-copy-part-end copy-part-requires (λ c. search needs) add-sum add-from
     (λ c. search needs) (λ c. search needs) loop-again same-length-2 returns-2)

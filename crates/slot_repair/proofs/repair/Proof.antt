@@ -12,7 +12,7 @@ use Rattle.slot_repair.proofs.repair.Tie as tie
 slice-aggregate-correct-with : tie.Need-slice-aggregate-correct-with
 slice-aggregate-correct-with c =
     let s = c .before .before .before .before in
-    sym (length-take-le (2 * s .args .size) blanks (omega (arith, s .pre .0 .size-to)))
+    sym (length-take-le (2 * s .args .size) blanks (omega (arith, s .pre .0 .range .size-to)))
 
 slice-aggregate-correct-with-2 : tie.Need-slice-aggregate-correct-with-2
 slice-aggregate-correct-with-2 c =
@@ -23,11 +23,10 @@ correct-with-requires c κs =
     let s = c .before .before .before .before .before .before in
     let n = c .before .before .before .word-count in (
       s .pre .0,
-      s .pre .1,
-      s .pre .2,
-      length-take-le (2 * s .args .size) blanks (omega (arith, s .pre .0 .size-to)),
-      length-take-le (n .result) (replicate 54 0) (omega (arith, n .ensures .1)) ∙ n .ensures .0,
-      s .pre .3,
+      (
+        record { many = length-take-le (n .result) (replicate 54 0) (omega (arith, n .ensures .1)) ∙ n .ensures .0; given = s .pre .1 },
+        length-take-le (2 * s .args .size) blanks (omega (arith, s .pre .0 .range .size-to)),
+      ),
     )
 
 pub repair-spec : {M : Type 1} → statement M
