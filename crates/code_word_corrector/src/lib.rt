@@ -2,12 +2,12 @@
 // locator of `code_word_locator` gives fifteen sums, and these the errors. The word with them taken off is tested, and put back where it
 // is not valid.
 // Inner: `code_word` stands over it. It asks for the locator's table, for t from 1 to 3 and for words of at most 15 semi-octets.
+ghost use mathlib.Core.Bool.{cond};
 ghost use mathlib.Core.Path.{_≡_};
 ghost use Prim.Native.Nat.{_+_, _^_, _≤_, _<_};
 ghost use lib.Dec.{ltb};
 ghost use lib.ListN.{length};
 ghost use Rattle.laws.specs.Decides.{Decides};
-ghost use Rattle.laws.specs.Tab.{pick};
 ghost use Rattle.code_word_laws.specs.Word.{SemiOctets, apart};
 ghost use Rattle.code_word_laws.specs.Correct.{WordCorrected, EachCorrected};
 ghost use Rattle.code_word_laws.specs.Corrector.{TableFor, WordFor, Started, Syndromes, Transformed, ErrorWord, Acceptable, Dealt, Tried};
@@ -131,7 +131,7 @@ pub fn correct_word(t: &[u32; 512], word: &mut [u8], most: u8) -> u8
 // The length of word i: one more for the words that come first.
 fn dealt(long: usize, over: usize, i: usize) -> usize
     requires { ⌜ long ≤ 15 ⌝ }
-    ensures { λ r. ⌜ r ≡ pick (ltb i over) (long + 1) long ⌝ }
+    ensures { λ r. ⌜ r ≡ cond (ltb i over) (long + 1) long ⌝ }
 {
     if i < over {
         return long + 1;

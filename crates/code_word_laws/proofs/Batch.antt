@@ -2,7 +2,7 @@
 -- turn of the loop over them keeps.
 -- Assumes nothing.
 use mathlib.Core.Path.{_≡_, refl, sym, ap, ap₂, _∙_, subst₂}
-use mathlib.Core.Bool.{Bool, true, false}
+use mathlib.Core.Bool.{Bool, true, false, cond}
 use mathlib.Core.List.{List, [], _∷_, _++_}
 use Prim.Native.Nat.{ℕ, zero, suc, _+_, _-_, _*_, _/_, _%_, _≤_, _<_, min}
 use native.Mathlib.Omega.{arith}
@@ -12,7 +12,6 @@ use lib.Dec.{eqb, ltb}
 use lib.ListN.{length, getD, take, drop, set, length-set, length-append, length-drop}
 use lib.Seq.{getD-set-same, getD-set-other, length-take-le, take-at, drop-at, drop-drop}
 use borrow.Author.Tests.{eqb-true, eqb-false, ltb-true, ltb-false}
-use Rattle.laws.specs.Tab.{pick}
 use Rattle.code_word_laws.specs.Word.{SemiOctets}
 use Rattle.code_word_laws.specs.Correct.{WordCorrected, lengthAt, startAt, EachCorrected}
 use Rattle.code_word_laws.specs.Corrector.{Dealt}
@@ -21,7 +20,7 @@ use Rattle.code_word_laws.proofs.Division.{take-semi-octets}
 
 -- ---- where words start
 
-one-more : (q r i : ℕ) (b : Bool) → ltb i r ≡ b → q * i + min i r + pick b (q + 1) q ≡ q * suc i + min (suc i) r
+one-more : (q r i : ℕ) (b : Bool) → ltb i r ≡ b → q * i + min i r + cond b (q + 1) q ≡ q * suc i + min (suc i) r
 one-more q r i true e = let h = ltb-true i r e in omega (arith, mul-suc q i)
 one-more q r i false e = let h = ltb-false i r e in omega (arith, mul-suc q i)
 
@@ -140,10 +139,10 @@ module _ (mode many n : ℕ) (old : List ℕ) (i at : ℕ) (new counts : List �
 
 -- ---- the settings of a batch
 
-pub dealt-is : {many n long over r : ℕ} (i : ℕ) → Dealt many n long over → r ≡ pick (ltb i over) (long + 1) long → r ≡ lengthAt many n i
-dealt-is i d e = e ∙ ap₂ (λ (x y : ℕ). pick (ltb i x) (y + 1) y) (d .rest) (d .quotient)
+pub dealt-is : {many n long over r : ℕ} (i : ℕ) → Dealt many n long over → r ≡ cond (ltb i over) (long + 1) long → r ≡ lengthAt many n i
+dealt-is i d e = e ∙ ap₂ (λ (x y : ℕ). cond (ltb i x) (y + 1) y) (d .rest) (d .quotient)
 
-least : (q r i : ℕ) (b : Bool) → ltb i r ≡ b → q ≤ pick b (q + 1) q
+least : (q r i : ℕ) (b : Bool) → ltb i r ≡ b → q ≤ cond b (q + 1) q
 least q r i true e = omega arith
 least q r i false e = omega arith
 

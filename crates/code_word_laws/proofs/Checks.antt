@@ -1,6 +1,7 @@
 -- The sum of what each data semi-octet adds is what the whole data leave: its digits in front of the data are the code word. Over the
 -- degree n and the number of data; a table's entry is what one semi-octet alone leaves.
 -- Assumes nothing.
+use mathlib.Core.Bool.{cond}
 use mathlib.Core.Path.{_≡_, refl, sym, ap, ap₂, _∙_}
 use mathlib.Core.List.{List, [], _∷_, _++_}
 use Prim.Native.Nat.{ℕ, zero, suc, _+_, _-_, _*_, _/_, _%_, _≤_, _<_}
@@ -11,7 +12,7 @@ use lib.Bits.{bitXor}
 use lib.ListN.{length, getD, take, drop, take-append-drop, drop-of-length-le}
 use lib.Seq.{take-length, drop-cons, length-take-le}
 use borrow.Author.Tests.{lt-ltb}
-use Rattle.laws.specs.Tab.{tab, pick}
+use Rattle.laws.specs.Tab.{tab}
 use Rattle.laws.proofs.Tab.{getD-tab, tab-same}
 use Rattle.gf16.specs.Field.{sum, product, power}
 use Rattle.gf16.proofs.Laws.{ring2, zero-sum, sum-zero, sum-same, product-sum, product-by-zero}
@@ -126,7 +127,7 @@ value-more (c ∷ cs) (suc m) x h =
 
 summed-more : (rows : List ℕ) (f : ℕ → ℕ) (m : ℕ) → m < 13 → summed rows f (suc m) ≡ bitXor (summed rows f m) (getD rows (16 * m + f m % 16) 0)
 unfolding summed withData
-summed-more rows f m h = ap (λ b. pick b (bitXor (summed rows f m) (getD rows (16 * m + f m % 16) 0)) (summed rows f m)) (lt-ltb m 13 h)
+summed-more rows f m h = ap (λ b. cond b (bitXor (summed rows f m) (getD rows (16 * m + f m % 16) 0)) (summed rows f m)) (lt-ltb m 13 h)
 
 summed-held : (n m : ℕ) (message : List ℕ) (x : ℕ) → n < 15 → m ≤ length message → length message ≤ 13 → SemiOctets message → value (rooted (suc n)) x ≡ 0
     → held (suc n) (summed (checkRows (suc n)) (λ k. getD message k 0) m) x ≡ product (power x (suc n)) (value (take m message) x)

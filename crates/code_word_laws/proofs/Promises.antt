@@ -1,7 +1,7 @@
 -- The answers of the public functions, from what their tests and steps told: one law an answer, over plain lists.
 -- Assumes nothing.
 use mathlib.Core.Path.{_≡_, refl, subst}
-use mathlib.Core.Bool.{Bool, true, false, not}
+use mathlib.Core.Bool.{Bool, true, false, not, cond}
 use mathlib.Core.List.{List}
 use Prim.Native.Nat.{ℕ, _+_, _-_, _/_, _%_, _≤_, _<_}
 use native.Mathlib.Omega.{arith}
@@ -10,7 +10,6 @@ use lib.Dec.{ltb}
 use lib.ListN.{length}
 use borrow.Author.Tests.{not-true, not-false, lt-ltb, le-ltb, ltb-true}
 use Rattle.laws.specs.Decides.{Decides}
-use Rattle.laws.specs.Tab.{pick}
 use Rattle.code_word_laws.specs.Word.{SemiOctets, Fits}
 use Rattle.code_word_laws.specs.Make.{NotMade}
 use Rattle.code_word_laws.specs.Correct.{WordCorrected, IsCorrected, IsNone, NotCorrected, lengthAt, Batch, EachCorrected, AllCorrected, NoneCorrected}
@@ -89,16 +88,16 @@ module _ (mode : ℕ) (words counts : List ℕ) where
         none-corrected
         (λ b.
         no-fit
-        (subst (λ (t : Bool). Fits mode (pick t (long + 1) long)) (le-ltb (n - 1) over (omega (arith, mod-lt (length words) some)))
+        (subst (λ (t : Bool). Fits mode (cond t (long + 1) long)) (le-ltb (n - 1) over (omega (arith, mod-lt (length words) some)))
         (b .fits (n - 1) (omega arith))))
 
     -- the first word is one of the longer, where there are any
     pub none-fitting-longer : ((0 < over → Fits mode (long + 1)) → ⊥) → NoneCorrected mode words counts words counts
     none-fitting-longer no-fit =
         none-corrected
-        (λ b. no-fit (λ h. subst (λ (t : Bool). Fits mode (pick t (long + 1) long)) (lt-ltb 0 over h) (b .fits 0 some)))
+        (λ b. no-fit (λ h. subst (λ (t : Bool). Fits mode (cond t (long + 1) long)) (lt-ltb 0 over h) (b .fits 0 some)))
 
-    fits-each : Fits mode long → (0 < over → Fits mode (long + 1)) → (i : ℕ) (t : Bool) → ltb i over ≡ t → Fits mode (pick t (long + 1) long)
+    fits-each : Fits mode long → (0 < over → Fits mode (long + 1)) → (i : ℕ) (t : Bool) → ltb i over ≡ t → Fits mode (cond t (long + 1) long)
     fits-each f g i true e = let h = ltb-true i over e in g (omega arith)
     fits-each f g i false e = f
 

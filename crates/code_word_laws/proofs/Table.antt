@@ -1,7 +1,7 @@
 -- The corrector's table as a definition: its entries are computed from the field, by the digits of gf16's Products, and the code's constant
 -- is compared with them by one computation. Assumes nothing.
 use mathlib.Core.Path.{_≡_, refl, sym, ap, ap₂, _∙_}
-use mathlib.Core.Bool.{Bool, true, false}
+use mathlib.Core.Bool.{Bool, true, false, cond}
 use mathlib.Core.List.{List}
 use Prim.Native.Nat.{ℕ, zero, suc, _+_, _*_, _/_, _%_, _^_, _<_}
 use native.Mathlib.Omega.{arith}
@@ -9,7 +9,7 @@ use native.Mathlib.Nat.{pow-suc, div-div-eq-div-mul, mul-comm}
 use lib.Dec.{ltb}
 use lib.ListN.{getD}
 use borrow.Author.Tests.{lt-ltb}
-use Rattle.laws.specs.Tab.{tab, pick}
+use Rattle.laws.specs.Tab.{tab}
 use Rattle.laws.proofs.Tab.{getD-tab}
 use Rattle.gf16.specs.Field.{product, power}
 use Rattle.gf16.proofs.Products.{looked, product-looked, looked-lt}
@@ -29,7 +29,7 @@ quick-is x (suc n) = ap (λ (y : ℕ). looked (x % 16) (y % 16)) (quick-is x n) 
 
 -- digit j of number 16 a + b, where x is 2^a and y is a times b
 abbrev pub digit : ℕ → ℕ → ℕ → ℕ → ℕ
-digit x y b j = pick (ltb j 15) (looked (b % 16) (quick x j % 16)) y
+digit x y b j = cond (ltb j 15) (looked (b % 16) (quick x j % 16)) y
 
 -- the low (h = 0) or high (h = 1) half of that number; x and y are arguments, so that they are computed once for its digits
 abbrev pub packedHalf : ℕ → ℕ → ℕ → ℕ → ℕ
@@ -56,12 +56,12 @@ entry-at a b h p ha hb hh e =
 abbrev cell : ℕ → ℕ → ℕ → ℕ
 cell a b = digit (quick 2 a) (looked (a % 16) (b % 16)) b
 
-pick-lt : (c : Bool) (x y : ℕ) → x < 16 → y < 16 → pick c x y < 16
-pick-lt true x y p q = p
-pick-lt false x y p q = q
+cond-lt : (c : Bool) (x y : ℕ) → x < 16 → y < 16 → cond c x y < 16
+cond-lt true x y p q = p
+cond-lt false x y p q = q
 
 cell-lt : (a b j : ℕ) → cell a b j < 16
-cell-lt a b j = pick-lt (ltb j 15) _ _ (looked-lt (b % 16) (quick (quick 2 a) j % 16)) (looked-lt (a % 16) (b % 16))
+cell-lt a b j = cond-lt (ltb j 15) _ _ (looked-lt (b % 16) (quick (quick 2 a) j % 16)) (looked-lt (a % 16) (b % 16))
 
 -- what a digit is in the field
 cell-spread : (a b j : ℕ) → looked (b % 16) (quick (quick 2 a) j % 16) ≡ product b (power (power 2 a) j)
@@ -94,7 +94,7 @@ table-of-entries =
       spread = λ a b j ha hb hj.
           ap (λ (x : ℕ). nibble j x) (number-at a b (omega arith) hb)
           ∙ nibble-packed (cell a b) 16 j (cell-lt a b) (omega arith)
-          ∙ ap (λ (c : Bool). pick c (looked (b % 16) (quick (quick 2 a) j % 16)) (looked (a % 16) (b % 16))) (lt-ltb j 15 hj)
+          ∙ ap (λ (c : Bool). cond c (looked (b % 16) (quick (quick 2 a) j % 16)) (looked (a % 16) (b % 16))) (lt-ltb j 15 hj)
           ∙ cell-spread a b j;
       times = λ a b ha hb.
           ap (λ (x : ℕ). x / 268435456) (entry-at a b 1 _ ha hb (omega arith) refl)

@@ -1,10 +1,10 @@
 -- What correcting leaves of a word, and of many words that stand one after the other. Assumes nothing.
+use mathlib.Core.Bool.{cond}
 use mathlib.Core.Path.{_≡_}
 use mathlib.Core.List.{List}
 use Prim.Native.Nat.{ℕ, zero, suc, _+_, _/_, _%_, _<_, _≤_}
 use lib.Dec.{ltb}
 use lib.ListN.{length, take, drop, getD}
-use Rattle.laws.specs.Tab.{pick}
 use Rattle.code_word_laws.specs.Word.{SemiOctets, Valid, apart, distance, Fits}
 
 -- what may be asked: the settings fit, and every element is a semi-octet
@@ -49,7 +49,7 @@ pub record NotCorrected (mode : ℕ) (old new : List ℕ) (count : ℕ) : Type 0
 
 -- the length of word i: one more for as many words as semi-octets are left over
 abbrev pub lengthAt : ℕ → ℕ → ℕ → ℕ
-lengthAt many n i = pick (ltb i (many % n)) (many / n + 1) (many / n)
+lengthAt many n i = cond (ltb i (many % n)) (many / n + 1) (many / n)
 
 -- where word i starts: behind those before it
 abbrev pub startAt : ℕ → ℕ → ℕ → ℕ

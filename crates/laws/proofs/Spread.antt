@@ -1,14 +1,14 @@
 -- Dealing places out in turn: of t places, place p goes to hand p % n. How many a hand gets, and that a sum over all places is the
 -- sum over the hands of what each holds. Assumes nothing.
 use mathlib.Core.Path.{_≡_, refl, sym, ap, _∙_}
-use mathlib.Core.Bool.{Bool, true, false}
+use mathlib.Core.Bool.{Bool, true, false, cond}
 use Prim.Native.Nat.{ℕ, zero, suc, _+_, _*_, _-_, _/_, _%_, _≤_, _<_}
 use native.Mathlib.Omega.{arith}
 use native.Mathlib.Nat.{mul-comm, suc-mul, div-add-mod, div-add-mod', mod-lt, add-div-right, div-eq-of-lt, le-div-iff-mul-le}
 use lib.Arith.{digits-div, digits-mod}
 use lib.Dec.{eqb, ltb}
 use borrow.Author.Tests.{eqb-true, eqb-false, ltb-true, ltb-false, eq-eqb, ne-eqb}
-use Rattle.laws.specs.Tab.{total, pick}
+use Rattle.laws.specs.Tab.{total}
 use Rattle.laws.proofs.Tab.{total-same, total-next, total-none}
 
 -- ---- sums in which one summand counts
@@ -41,16 +41,16 @@ total-bump f g c j (suc n) h e d = go (eqb j n) refl (λ p. total-bump f g c j n
         omega arith
 
 -- the one summand that is picked
-pub total-one : (f : ℕ → ℕ) (j n : ℕ) → j < n → total (λ i. pick (eqb i j) (f i) 0) n ≡ f j
+pub total-one : (f : ℕ → ℕ) (j n : ℕ) → j < n → total (λ i. cond (eqb i j) (f i) 0) n ≡ f j
 total-one f j n h =
-    let a : pick (eqb j j) (f j) 0 ≡ 0 + f j = rw (eq-eqb j j refl) (omega arith) in
-    let b = total-bump (λ i. 0) (λ i. pick (eqb i j) (f i) 0) (f j) j n h a (λ i p x. rw (ne-eqb i j x)) in
+    let a : cond (eqb j j) (f j) 0 ≡ 0 + f j = rw (eq-eqb j j refl) (omega arith) in
+    let b = total-bump (λ i. 0) (λ i. cond (eqb i j) (f i) 0) (f j) j n h a (λ i p x. rw (ne-eqb i j x)) in
     let z = total-nil (λ i. 0) n (λ i p. refl) in
     omega arith
 
-total-pick : (b : Bool) (f : ℕ → ℕ) (n : ℕ) → total (λ k. pick b (f k) 0) n ≡ pick b (total f n) 0
-total-pick true f n = refl
-total-pick false f n = total-nil (λ k. 0) n (λ i p. refl)
+total-cond : (b : Bool) (f : ℕ → ℕ) (n : ℕ) → total (λ k. cond b (f k) 0) n ≡ cond b (total f n) 0
+total-cond true f n = refl
+total-cond false f n = total-nil (λ k. 0) n (λ i p. refl)
 
 ones : (n : ℕ) → total (λ k. 1) n ≡ n
 unfolding total
@@ -161,18 +161,18 @@ spread f n (suc t) p =
     ∙ ap (λ (x : ℕ). x + f t) (spread f n t p)
     ∙ sym (total-bump (part f n t) (part f n (suc t)) (f t) (t % n) n (mod-lt t p) (part-mine f n t p) (λ i h x. part-other f n t i h x))
 
-picked : (f : ℕ → ℕ) (n t j i : ℕ) → i < n → part (λ p. pick (eqb (p % n) j) (f p) 0) n t i ≡ pick (eqb i j) (part f n t i) 0
+picked : (f : ℕ → ℕ) (n t j i : ℕ) → i < n → part (λ p. cond (eqb (p % n) j) (f p) 0) n t i ≡ cond (eqb i j) (part f n t i) 0
 unfolding part
 picked f n t j i h =
-    total-same (λ k. pick (eqb ((n * k + i) % n) j) (f (n * k + i)) 0) (λ k. pick (eqb i j) (f (n * k + i)) 0) (share t n i)
+    total-same (λ k. cond (eqb ((n * k + i) % n) j) (f (n * k + i)) 0) (λ k. cond (eqb i j) (f (n * k + i)) 0) (share t n i)
     (λ k p. rw (mul-comm n k, digits-mod k h))
-    ∙ total-pick (eqb i j) (λ k. f (n * k + i)) (share t n i)
+    ∙ total-cond (eqb i j) (λ k. f (n * k + i)) (share t n i)
 
 -- the sum over the places of one hand
-pub spread-one : (f : ℕ → ℕ) (n t j : ℕ) → j < n → total (λ p. pick (eqb (p % n) j) (f p) 0) t ≡ part f n t j
+pub spread-one : (f : ℕ → ℕ) (n t j : ℕ) → j < n → total (λ p. cond (eqb (p % n) j) (f p) 0) t ≡ part f n t j
 spread-one f n t j h =
-    spread (λ p. pick (eqb (p % n) j) (f p) 0) n t (omega arith)
-    ∙ total-same (part (λ p. pick (eqb (p % n) j) (f p) 0) n t) (λ i. pick (eqb i j) (part f n t i) 0) n (λ i p. picked f n t j i p)
+    spread (λ p. cond (eqb (p % n) j) (f p) 0) n t (omega arith)
+    ∙ total-same (part (λ p. cond (eqb (p % n) j) (f p) 0) n t) (λ i. cond (eqb i j) (part f n t i) 0) n (λ i p. picked f n t j i p)
     ∙ total-one (part f n t) j n h
 
 -- the shares of all hands are all places

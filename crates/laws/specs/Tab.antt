@@ -1,6 +1,5 @@
--- Lists and sums that are given by a function of the place, and a number chosen by a test.
+-- Lists and sums that are given by a function of the place.
 -- Assumes nothing.
-use mathlib.Core.Bool.{Bool, true, false}
 use mathlib.Core.List.{List, [], _∷_}
 use Prim.Native.Nat.{ℕ, zero, suc, _+_, _<_}
 use lib.ListN.{getD}
@@ -14,11 +13,6 @@ tab f (suc n) = f 0 ∷ tab (λ k. f (suc k)) n
 unfoldable pub total : (ℕ → ℕ) → ℕ → ℕ
 total f zero = 0
 total f (suc n) = total f n + f n
-
--- the first where the test holds, else the second
-abbrev pub pick : Bool → ℕ → ℕ → ℕ
-pick true a b = a
-pick false a b = b
 
 -- each element is below b
 abbrev pub Below : ℕ → List ℕ → Type 0

@@ -1,7 +1,7 @@
 -- The order and the swap, and their way back: from the data of a slot to the request, the frame and the heading that they ought to have.
 -- Assumes nothing.
 use mathlib.Core.Path.{_≡_, refl, sym, ap, ap₂, _∙_}
-use mathlib.Core.Bool.{Bool, true, false}
+use mathlib.Core.Bool.{Bool, true, false, cond}
 use mathlib.Core.Logic.{_≢_}
 use mathlib.Core.List.{List, [], _∷_, _++_}
 use Prim.Native.Nat.{ℕ, zero, suc, _+_, _*_, _-_, _/_, _%_, _^_, _<_}
@@ -10,7 +10,7 @@ use native.Mathlib.Nat.{div-one, div-div-eq-div-mul, mul-comm, pow-suc}
 use lib.Dec.{eqb}
 use lib.ListN.{length, getD, take, drop, set, length-append, length-set, length-drop, take-append-drop, List·getD-append}
 use lib.Seq.{getD-set-same, getD-set-other, set-set, set-comm, set-getD, take-at, drop-at}
-use Rattle.laws.specs.Tab.{pick, Below}
+use Rattle.laws.specs.Tab.{Below}
 use Rattle.laws.proofs.Tab.{below-append, below-drop}
 use Rattle.code_word_laws.specs.Word.{distance}
 use Rattle.slot_laws.specs.Sizes.{InRange, wordLength, hash1, hash2, frameSize, headingSize}
@@ -50,7 +50,7 @@ first-lt size mode q a = go (eqb size 40)
     bits = (omega arith, (omega arith, bits-of (partN size mode a)))
 
     go : (b : Bool)
-        → hash (pick b poly14 poly22) (8 * pick b 2 3 - 2) (q % 2 ∷ q / 2 % 2 ∷ bitsOf (partN size mode a)) < 2 ^ (8 * pick b 2 3 - 2)
+        → hash (cond b poly14 poly22) (8 * cond b 2 3 - 2) (q % 2 ∷ q / 2 % 2 ∷ bitsOf (partN size mode a)) < 2 ^ (8 * cond b 2 3 - 2)
     go true = hash-lt poly14 14 (q % 2 ∷ q / 2 % 2 ∷ bitsOf (partN size mode a)) degree14 bits
     go false = hash-lt poly22 22 (q % 2 ∷ q / 2 % 2 ∷ bitsOf (partN size mode a)) degree22 bits
 
@@ -178,7 +178,7 @@ request-at : (size v q : ℕ) → v < 2 ^ (8 * hash1 size - 2) → q < 4
 unfolding hash1
 request-at size v q h l = go (eqb size 40) h
   where
-    go : (b : Bool) → v < 2 ^ (8 * pick b 2 3 - 2) → (v + q * 2 ^ (8 * pick b 2 3 - 2)) / 16 ^ (2 * pick b 2 3 - 1) % 16 / 4 ≡ q
+    go : (b : Bool) → v < 2 ^ (8 * cond b 2 3 - 2) → (v + q * 2 ^ (8 * cond b 2 3 - 2)) / 16 ^ (2 * cond b 2 3 - 1) % 16 / 4 ≡ q
     go true k = omega arith
     go false k = omega arith
 

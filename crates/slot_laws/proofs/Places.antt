@@ -1,7 +1,7 @@
 -- The interleaving and the mode signature undone give the words back, and the words give the slot back. The changed places of a slot are
 -- those of its words. The signature is any g with semi-octets for values. Assumes nothing.
 use mathlib.Core.Path.{_≡_, refl, sym, ap, ap₂, _∙_}
-use mathlib.Core.Bool.{Bool, true, false}
+use mathlib.Core.Bool.{Bool, true, false, cond}
 use mathlib.Core.List.{List}
 use Prim.Native.Nat.{ℕ, zero, suc, _+_, _*_, _-_, _%_, _≤_, _<_}
 use native.Mathlib.Omega.{arith}
@@ -10,7 +10,7 @@ use lib.Arith.{digits-div, digits-mod}
 use lib.Dec.{eqb}
 use lib.ListN.{length, getD}
 use borrow.Author.Tests.{eqb-true, eqb-false, eq-eqb, ne-eqb}
-use Rattle.laws.specs.Tab.{tab, total, pick, Below}
+use Rattle.laws.specs.Tab.{tab, total, Below}
 use Rattle.laws.proofs.Tab.{length-tab, getD-tab, tab-is, below-tab, total-same, total-front, total-turned, total-none}
 use Rattle.laws.proofs.Spread.{part, spread, spread-one}
 use Rattle.gf16.specs.Field.{sum}
@@ -168,11 +168,11 @@ pub changes-word : (size : ℕ) (g : ℕ → ℕ → ℕ) (s r : List ℕ) (i : 
     → changesIn size s r i ≡ apart (received size g s i) (received size g r i)
 unfolding changesIn wordOf
 changes-word size g s r i h l =
-    total-turned (λ p. pick (eqb (wordOf size p) i) (changed s r p) 0) (2 * size)
-    ∙ total-same _ (λ j. pick (eqb (j % words size) i) (changed s r (2 * size - 1 - j)) 0) (2 * size)
+    total-turned (λ p. cond (eqb (wordOf size p) i) (changed s r p) 0) (2 * size)
+    ∙ total-same _ (λ j. cond (eqb (j % words size) i) (changed s r (2 * size - 1 - j)) 0) (2 * size)
     (λ j m.
     let e : 2 * size - 1 - (2 * size - 1 - j) ≡ j = omega arith in
-    ap (λ (x : ℕ). pick (eqb (x % words size) i) (changed s r (2 * size - 1 - j)) 0) e)
+    ap (λ (x : ℕ). cond (eqb (x % words size) i) (changed s r (2 * size - 1 - j)) 0) e)
     ∙ spread-one (λ j. changed s r (2 * size - 1 - j)) (words size) (2 * size) i l
     ∙ part-word size (changed s r) i h l
     ∙ sym (apart-received size g s r i)

@@ -1,13 +1,13 @@
 -- The sizes add up: the words' lengths to the slot, the data to frame and hashes; every word has 13 to 15 semi-octets; document 01's table.
 -- Assumes nothing.
 use mathlib.Core.Path.{_≡_, refl, sym, ap, _∙_}
-use mathlib.Core.Bool.{Bool, true, false}
+use mathlib.Core.Bool.{Bool, true, false, cond}
 use Prim.Native.Nat.{ℕ, _+_, _*_, _-_, _/_, _≤_, _<_}
 use native.Mathlib.Omega.{arith}
 use native.Mathlib.Nat.{mul-assoc, mul-comm, mul-le-mul-left, div-lt-iff-lt-mul}
 use lib.Dec.{eqb, ltb, leb, leb→le}
 use borrow.Author.Tests.{ltb-true, ltb-false, leb-true}
-use Rattle.laws.specs.Tab.{total, pick}
+use Rattle.laws.specs.Tab.{total}
 use Rattle.laws.proofs.Tab.{total-same, total-less, total-back, total-up, total-next, total-none}
 use Rattle.laws.proofs.Every.{both, both-left, both-right, at2}
 use Rattle.laws.proofs.Spread.{share, share-is, share-lt, lt-share, shares}
@@ -89,7 +89,7 @@ pub hash1-high : (size : ℕ) → hash1 size ≤ 3
 unfolding hash1
 hash1-high size = go (eqb size 40)
   where
-    go : (b : Bool) → pick b 2 3 ≤ 3
+    go : (b : Bool) → cond b 2 3 ≤ 3
     go true = omega arith
     go false = omega arith
 
@@ -97,7 +97,7 @@ pub hash1-low : (size : ℕ) → 2 ≤ hash1 size
 unfolding hash1
 hash1-low size = go (eqb size 40)
   where
-    go : (b : Bool) → 2 ≤ pick b 2 3
+    go : (b : Bool) → 2 ≤ cond b 2 3
     go true = omega arith
     go false = omega arith
 
@@ -105,7 +105,7 @@ pub hash2-high : (size mode : ℕ) → hash2 size mode ≤ 2
 unfolding hash2
 hash2-high size mode = go (leb 80 size) (leb 3 mode)
   where
-    go : (b c : Bool) → pick b (pick c 2 0) 0 ≤ 2
+    go : (b c : Bool) → cond b (cond c 2 0) 0 ≤ 2
     go true true = omega arith
     go true false = omega arith
     go false c = omega arith
@@ -165,8 +165,8 @@ conceal-few size mode h = go (leb 80 size) (eqb mode 3) (eqb mode 4) refl
     w = words-low size h
 
     go : (a b d : Bool) → leb 80 size ≡ a
-        → pick a (pick b ((80447761194030 * size - 1791044776119394 + 500000000000000) / 1000000000000000)
-        (pick d ((66492537313433 * size - 1970149253731338 + 500000000000000) / 1000000000000000) 0)) 0 + 2 ≤ words size
+        → cond a (cond b ((80447761194030 * size - 1791044776119394 + 500000000000000) / 1000000000000000)
+        (cond d ((66492537313433 * size - 1970149253731338 + 500000000000000) / 1000000000000000) 0)) 0 + 2 ≤ words size
     go true true d e = omega (arith, c, leb-true 80 size e)
     go true false true e = omega (arith, c, leb-true 80 size e)
     go true false false e = omega (arith, w)
@@ -205,7 +205,7 @@ swap-apart size mode r = go (eqb size 40) refl
     l : 13 ≤ wordLength size 0
     l = length-low size 0 (r .size-from) (omega (arith, words-low size (r .size-from)))
 
-    go : (b : Bool) → eqb size 40 ≡ b → 2 * pick b 2 3 - 1 < wordLength size 0 - distance mode
+    go : (b : Bool) → eqb size 40 ≡ b → 2 * cond b 2 3 - 1 < wordLength size 0 - distance mode
     go true e = omega (arith, l, r .mode-to)
     go false e = omega (arith, l, r .mode-to)
 

@@ -3,14 +3,14 @@
 -- matches.
 -- Assumes nothing.
 use mathlib.Core.Path.{_≡_, refl, sym, ap, _∙_}
-use mathlib.Core.Bool.{Bool, true, false}
+use mathlib.Core.Bool.{Bool, true, false, cond}
 use mathlib.Core.List.{List, [], _∷_}
 use Prim.Native.Nat.{ℕ, zero, suc, _+_, _-_, _<_}
 use native.Mathlib.Omega.{arith}
 use lib.Dec.{T, ltb, eqb, ltb→lt}
 use lib.ListN.{length, getD, drop, length-drop}
 use lib.Seq.{take-all}
-use Rattle.laws.specs.Tab.{total, pick, Below}
+use Rattle.laws.specs.Tab.{total, Below}
 use Rattle.laws.proofs.Tab.{total-up, below-drop}
 use Rattle.laws.proofs.Every.{both, both-left, both-right}
 use Rattle.code_word_laws.specs.Word.{SemiOctets, Valid, distance}
@@ -53,7 +53,7 @@ pub signature-lt : (mode i k : ℕ) → signature mode i k < 16
 unfolding signature
 signature-lt mode i k = go (ltb i 6)
   where
-    go : (b : Bool) → pick b (getD (signatureRow mode) k 0) 0 < 16
+    go : (b : Bool) → cond b (getD (signatureRow mode) k 0) 0 < 16
     go true = low-below (signatureRow mode) (rows-low mode) k
     go false = omega arith
 

@@ -1,9 +1,10 @@
 -- Changed semi-octets (document 01, demand 3): places of the slot in which two slots differ, each in the one word that
 -- the interleaving put there. Assumes nothing.
+use mathlib.Core.Bool.{cond}
 use mathlib.Core.List.{List}
 use Prim.Native.Nat.{ℕ, _*_, _≤_, _<_}
 use lib.Dec.{eqb}
-use Rattle.laws.specs.Tab.{total, pick}
+use Rattle.laws.specs.Tab.{total}
 use Rattle.code_word_laws.specs.Word.{unequal}
 use Rattle.slot_laws.specs.Sizes.{words}
 use Rattle.slot_laws.specs.Semi.{semi}
@@ -19,7 +20,7 @@ changes size s r = total (changed s r) (2 * size)
 
 -- the changed places that belong to word i
 unfoldable pub changesIn : ℕ → List ℕ → List ℕ → ℕ → ℕ
-changesIn size s r i = total (λ p. pick (eqb (wordOf size p) i) (changed s r p) 0) (2 * size)
+changesIn size s r i = total (λ p. cond (eqb (wordOf size p) i) (changed s r p) 0) (2 * size)
 
 -- no word has more than k changed places
 abbrev pub AtMost : ℕ → ℕ → List ℕ → List ℕ → Type 0

@@ -1,12 +1,13 @@
 -- The data of a slot in order (A.16 to A.37): the frame's semi-octets from the last byte back, both hashes and the request in front of
 -- them, and the swap. Semi-octets are numbers below 16; four bits of the annex, the lowest first, are one of them.
 -- Assumes nothing.
+use mathlib.Core.Bool.{cond}
 use mathlib.Core.Path.{_≡_}
 use mathlib.Core.List.{List, [], _∷_, _++_}
 use Prim.Native.Nat.{ℕ, zero, suc, _+_, _-_, _*_, _/_, _%_, _^_}
 use lib.Dec.{eqb}
 use lib.ListN.{length, take, drop, getD, set}
-use Rattle.laws.specs.Tab.{tab, pick, Below}
+use Rattle.laws.specs.Tab.{tab, Below}
 use Rattle.code_word_laws.specs.Word.{distance}
 use Rattle.slot_laws.specs.Sizes.{wordLength, conceal, hash1, hash2, frameSize, dataSize}
 use Rattle.slot_laws.specs.Semi.{semi}
@@ -26,7 +27,7 @@ partP size mode a = drop (2 * frameSize size mode - conceal size mode) a
 -- the first hash, 8 h1 - 2 bits, over the request's bits and those of the first part (A.25)
 unfoldable pub firstHash : ℕ → ℕ → ℕ → List ℕ → ℕ
 firstHash size mode q a =
-    hash (pick (eqb size 40) poly14 poly22) (8 * hash1 size - 2) (q % 2 ∷ q / 2 % 2 ∷ bitsOf (partN size mode a))
+    hash (cond (eqb size 40) poly14 poly22) (8 * hash1 size - 2) (q % 2 ∷ q / 2 % 2 ∷ bitsOf (partN size mode a))
 
 -- the second hash, 16 bits, over the bits of the block (A.25)
 unfoldable pub secondHash : ℕ → ℕ → List ℕ → ℕ

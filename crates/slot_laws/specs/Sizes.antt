@@ -1,9 +1,10 @@
 -- The sizes of a slot's parts (A.7 to A.15), from the slot's size in bytes and the mode.
 -- Assumes nothing.
+use mathlib.Core.Bool.{cond}
 use mathlib.Core.Path.{_≡_}
 use Prim.Native.Nat.{ℕ, _+_, _-_, _*_, _/_, _≤_, _<_}
 use lib.Dec.{leb, eqb}
-use Rattle.laws.specs.Tab.{total, pick}
+use Rattle.laws.specs.Tab.{total}
 use Rattle.code_word_laws.specs.Word.{distance}
 
 -- document 01's settings: slot 40 to 400 bytes, mode 2, 3 or 4
@@ -34,9 +35,9 @@ dataLength size mode i = wordLength size i - (distance mode - 1)
 -- floor(0.066492537313433 Ns - 1.970149253731338 + 0.5) in mode 4, from 80 bytes up (A.11); the numbers are multiplied by 10^15
 unfoldable pub concealWords : ℕ → ℕ → ℕ
 concealWords size mode =
-    pick (leb 80 size)
-    (pick (eqb mode 3) ((80447761194030 * size - 1791044776119394 + 500000000000000) / 1000000000000000)
-    (pick (eqb mode 4) ((66492537313433 * size - 1970149253731338 + 500000000000000) / 1000000000000000) 0))
+    cond (leb 80 size)
+    (cond (eqb mode 3) ((80447761194030 * size - 1791044776119394 + 500000000000000) / 1000000000000000)
+    (cond (eqb mode 4) ((66492537313433 * size - 1970149253731338 + 500000000000000) / 1000000000000000) 0))
     0
 
 -- the data semi-octets of the last n words
@@ -49,11 +50,11 @@ conceal size mode = block size mode (concealWords size mode)
 
 -- the first hash in bytes, with the two request bits; mode 2 and up (A.13)
 unfoldable pub hash1 : ℕ → ℕ
-hash1 size = pick (eqb size 40) 2 3
+hash1 size = cond (eqb size 40) 2 3
 
 -- the second hash in bytes (A.14)
 unfoldable pub hash2 : ℕ → ℕ → ℕ
-hash2 size mode = pick (leb 80 size) (pick (leb 3 mode) 2 0) 0
+hash2 size mode = cond (leb 80 size) (cond (leb 3 mode) 2 0) 0
 
 -- the frame in bytes (A.15); N (d - 1) / 2 is N (m - 1)
 unfoldable pub frameSize : ℕ → ℕ → ℕ

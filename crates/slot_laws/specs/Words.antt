@@ -1,12 +1,12 @@
 -- Data words, the mode signature and the interleaving (A.38, A.46 to A.52).
 -- The words of a slot are a function: word i is the list w i of its semi-octets.
 -- Assumes nothing.
-use mathlib.Core.Bool.{Bool, true, false}
+use mathlib.Core.Bool.{Bool, true, false, cond}
 use mathlib.Core.List.{List, [], _∷_}
 use Prim.Native.Nat.{ℕ, _-_, _*_, _/_, _%_}
 use lib.Dec.{eqb, ltb}
 use lib.ListN.{take, drop, getD}
-use Rattle.laws.specs.Tab.{tab, total, pick}
+use Rattle.laws.specs.Tab.{tab, total}
 use Rattle.gf16.specs.Field.{sum}
 use Rattle.slot_laws.specs.Sizes.{words, wordLength, dataLength}
 use Rattle.slot_laws.specs.Semi.{semi, pack}
@@ -32,7 +32,7 @@ signatureRow mode =
 
 -- .. to semi-octet k of word i: the words 0 to 5 carry it
 unfoldable pub signature : ℕ → ℕ → ℕ → ℕ
-signature mode i k = pick (ltb i 6) (getD (signatureRow mode) k 0) 0
+signature mode i k = cond (ltb i 6) (getD (signatureRow mode) k 0) 0
 
 -- the place in the slot of semi-octet k of word i (A.51)
 unfoldable pub placeOf : ℕ → ℕ → ℕ → ℕ

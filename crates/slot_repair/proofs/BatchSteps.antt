@@ -2,7 +2,7 @@
 -- leaves of each, their data gathered, and the slot's answer from that.
 -- Assumes nothing.
 use mathlib.Core.Path.{_≡_, refl, sym, ap, ap₂, _∙_, subst}
-use mathlib.Core.Bool.{Bool, true, false}
+use mathlib.Core.Bool.{Bool, true, false, cond}
 use mathlib.Core.List.{List, [], _∷_, _++_, append-assoc}
 use Prim.Native.Nat.{ℕ, zero, suc, _+_, _*_, _-_, _/_, _%_, _≤_, _<_}
 use native.Mathlib.Omega.{arith}
@@ -14,7 +14,7 @@ use lib.ListN.{length, getD, take, drop, length-append, length-drop}
 use lib.Seq.{length-take-le, take-all, take-at, drop-drop}
 use borrow.Author.Tests.{eqb-true, eqb-false, ltb-true, ltb-false}
 use borrow.Rule.Slice.PartMut.{midOf, putMid, same-len-mid}
-use Rattle.laws.specs.Tab.{total, pick, Below}
+use Rattle.laws.specs.Tab.{total, Below}
 use Rattle.laws.proofs.Tab.{total-same, total-next, total-none, total-up, below-take, below-drop}
 use Rattle.laws.proofs.Spread.{share}
 use Rattle.code_word_laws.specs.Word.{Fits, apart, distance, IsDistance}
@@ -47,7 +47,7 @@ share-at t n i h = go (ltb i (t % n)) refl
     p : 0 < n
     p = omega arith
 
-    go : (b : Bool) → ltb i (t % n) ≡ b → (t + (n - 1 - i)) / n ≡ pick b (t / n + 1) (t / n)
+    go : (b : Bool) → ltb i (t % n) ≡ b → (t + (n - 1 - i)) / n ≡ cond b (t / n + 1) (t / n)
     go true e =
         let d = div-add-mod' t n in
         let r = mod-lt t p in

@@ -6,7 +6,8 @@ use Prim.Native.Nat.{ℕ, _+_, _-_, _≤_, _<_, zero, suc}
 use native.Mathlib.Omega.{arith}
 use lib.ListN.{length, getD}
 use Rattle.laws.specs.Tab.{total}
-use Rattle.laws.proofs.Tab.{tab-is, total-same, total-next, total-none}
+use Rattle.laws.proofs.Spread.{total-nil}
+use Rattle.laws.proofs.Tab.{tab-is, total-same}
 use Rattle.laws.proofs.Fill.{Filled, filled-last}
 use Rattle.code_word_laws.specs.Word.{apart}
 use Rattle.slot_laws.specs.Sizes.{InRange, words, wordLength}
@@ -56,13 +57,6 @@ module _ (size mode : ℕ) (slot message : List ℕ) (count : ℕ) (range : InRa
 
 -- ---- the slot's answer
 
-total-nothing : (f : ℕ → ℕ) (n : ℕ) → ((i : ℕ) → i < n → f i ≡ 0) → total f n ≡ 0
-total-nothing f zero h = total-none f
-total-nothing f (suc n) h =
-    let t = total-nothing f n (λ i l. h i (omega arith)) in
-    let z = h n (omega arith) in
-    total-next f n ∙ omega arith
-
 same-apart : (v w : List ℕ) → v ≡ w → apart v w ≡ 0
 same-apart v w e = let h = apart-front 0 v w e in omega arith
 
@@ -82,7 +76,7 @@ clean-slot size mode slot places message r l p d a = record {
         near = let z = same-apart (wordIn size mode slot j) (codeWord size mode message j) e in omega (arith, r .mode-from);
       };
   counted =
-      sym (total-nothing (λ j. apart (wordIn size mode slot j) (codeWord size mode message j)) (words size)
+      sym (total-nil (λ j. apart (wordIn size mode slot j) (codeWord size mode message j)) (words size)
       (λ j h. same-apart (wordIn size mode slot j) (codeWord size mode message j) (same j h)));
 }
   where

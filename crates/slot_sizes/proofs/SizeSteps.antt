@@ -1,13 +1,13 @@
 -- What the code of the sizes asks: each size by its cases, the smaller numbers of A.11, and a turn of the loop over the last words.
 -- Assumes nothing.
 use mathlib.Core.Path.{_≡_, refl, sym, ap, ap₂, _∙_}
-use mathlib.Core.Bool.{Bool, true, false}
+use mathlib.Core.Bool.{Bool, true, false, cond}
 use Prim.Native.Nat.{ℕ, _+_, _*_, _-_, _/_, _≤_, _<_}
 use native.Mathlib.Omega.{arith}
 use native.Mathlib.Numerals.{add-one}
 use lib.Dec.{eqb, leb, eqb→eq}
 use borrow.Author.Tests.{eq-eqb, ne-eqb, le-leb, lt-leb}
-use Rattle.laws.specs.Tab.{pick, total}
+use Rattle.laws.specs.Tab.{total}
 use Rattle.laws.proofs.Every.{at}
 use Rattle.laws.proofs.Tab.{total-next, total-none}
 use Rattle.code_word_laws.specs.Word.{distance}
@@ -44,13 +44,13 @@ pub hash2-small : (size mode : ℕ) → size < 80 → hash2 size mode ≡ 0
 unfolding hash2
 hash2-small size mode h = rw (lt-leb 80 size h)
 
-pick-same : (b : Bool) (a : ℕ) → pick b a a ≡ a
-pick-same true a = refl
-pick-same false a = refl
+cond-same : (b : Bool) (a : ℕ) → cond b a a ≡ a
+cond-same true a = refl
+cond-same false a = refl
 
 pub hash2-two : (size mode : ℕ) → mode < 3 → hash2 size mode ≡ 0
 unfolding hash2
-hash2-two size mode h = rw (lt-leb 3 mode h) (pick-same (leb 80 size) 0)
+hash2-two size mode h = rw (lt-leb 3 mode h) (cond-same (leb 80 size) 0)
 
 pub hash2-large : (size mode : ℕ) → 80 ≤ size → 3 ≤ mode → hash2 size mode ≡ 2
 unfolding hash2
@@ -93,7 +93,7 @@ conceal-four size mode h k e =
 
 pub conceal-other : (size mode : ℕ) → (mode ≡ 3 → ⊥) → (mode ≡ 4 → ⊥) → concealWords size mode ≡ 0
 unfolding concealWords
-conceal-other size mode n m = rw (ne-eqb mode 3 n, ne-eqb mode 4 m) (pick-same (leb 80 size) 0)
+conceal-other size mode n m = rw (ne-eqb mode 3 n, ne-eqb mode 4 m) (cond-same (leb 80 size) 0)
 
 pub conceal-is : (size mode r : ℕ) → 40 ≤ size → concealWords size mode ≡ r → (r ≡ concealWords size mode) × (r ≤ words size)
 conceal-is size mode r g e = let f = conceal-few size mode g in (sym e, omega arith)
