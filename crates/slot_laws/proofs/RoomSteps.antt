@@ -10,7 +10,7 @@ use lib.Seq.{length-take-le, take-at, drop-at}
 use borrow.Rule.Slice.PartMut.{midOf, putMid, same-len-mid}
 use Rattle.laws.specs.Tab.{total, Below}
 use Rattle.laws.proofs.Tab.{total-none, total-next, total-up, below-append, below-take, below-drop}
-use Rattle.code_word_laws.specs.Word.{distance}
+use Rattle.code_word_laws.specs.Word.{distance, IsDistance}
 use Rattle.slot_laws.specs.Sizes.{InRange, words, wordLength, dataLength}
 use Rattle.slot_laws.specs.Words.{piece, dataWord}
 use Rattle.slot_laws.specs.Order.{Data}
@@ -25,6 +25,19 @@ pub record WordPart (size mode i at n e : ℕ) (old : List ℕ) : Type 0 where
   pub given : Data size mode old
   pub is : n ≡ wordLength size i
   pub end : e ≡ at + (n - (distance mode - 1))
+
+-- .. as the loops over the words know it
+pub word-part : {size mode count i at n d : ℕ} {old : List ℕ} → InRange size mode → count ≡ words size → i < count
+    → at ≡ total (dataLength size mode) i → Data size mode old → n ≡ wordLength size i → IsDistance mode d
+    → WordPart size mode i at n (at + (n - (d - 1))) old
+word-part range count-is inside start given is distance-is = record {
+  range = range;
+  inside = omega arith;
+  start = start;
+  given = given;
+  is = is;
+  end = omega (arith, distance-is .is);
+}
 
 pub start-first : (size mode : ℕ) → 0 ≡ total (dataLength size mode) 0
 start-first size mode = sym (total-none (dataLength size mode))

@@ -11,7 +11,7 @@ use Rattle.laws.specs.Tab.{total}
 use Rattle.slot_laws.specs.Sizes.{dataLength}
 use Rattle.slot_laws.specs.Order.{Data}
 use Rattle.slot_clean.specs.Inner.{AllClean}
-use Rattle.slot_laws.proofs.RoomSteps.{WordPart, start-first, next-start, before-end, end-few, room-is}
+use Rattle.slot_laws.proofs.RoomSteps.{WordPart, word-part, start-first, next-start, before-end, end-few, room-is}
 use Rattle.slot_clean.proofs.CleanSteps.{clean-first, clean-data, clean-next}
 use Rattle.slot_clean.proofs.read_clean.Statement.{statement}
 use Rattle.slot_clean.proofs.read_clean.Tie as tie
@@ -38,14 +38,8 @@ part : (c : tie.After-word-length Inv-loop μ-loop) → let h = c .before .befor
     (h .loop .at + (c .word-length .result - (h .before .before .distance .result - 1))) (h .loop .message)
 part c =
     let h = c .before .before in
-    record {
-      range = begin h .pre .0 .range;
-      inside = omega (arith, h .before .before .before .word-count .ensures .0, c .before .loop-test .taken);
-      start = h .loop .inv .1;
-      given = h .loop .inv .2;
-      is = c .word-length .ensures .0;
-      end = omega (arith, h .before .before .distance .ensures .is);
-    }
+    word-part (begin h .pre .0 .range) (h .before .before .before .word-count .ensures .0) (c .before .loop-test .taken) (h .loop .inv .1)
+    (h .loop .inv .2) (c .word-length .ensures .0) (h .before .before .distance .ensures)
 
 add-e : tie.Need-add-e Inv-loop μ-loop
 add-e c = record { fits = omega (arith, end-few (part c)) }

@@ -9,7 +9,7 @@ use Rattle.slot_laws.specs.Words.{signature}
 use Rattle.slot_laws.specs.Slot.{codeWord}
 use Rattle.slot_interleaving.specs.Inner.{Placed}
 use Rattle.slot_laws.proofs.Slot.{all-words, signature-lt}
-use Rattle.slot_laws.proofs.RoomSteps.{WordPart, start-first, next-start, before-end, end-few}
+use Rattle.slot_laws.proofs.RoomSteps.{WordPart, word-part, start-first, next-start, before-end, end-few}
 use Rattle.slot_interleaving.proofs.PlaceSteps.{
   placed-first,
   placed-next,
@@ -42,14 +42,8 @@ part : (c : tie.After-word-length Inv-loop μ-loop) → let h = c .before .befor
 part c =
     let h = c .before .before in
     let s = begin h in
-    record {
-      range = s .pre .0;
-      inside = omega (arith, h .before .before .before .word-count .ensures .0, c .before .loop-test .taken);
-      start = h .loop .inv .1;
-      given = s .pre .1;
-      is = c .word-length .ensures .0;
-      end = omega (arith, h .before .before .distance .ensures .is);
-    }
+    word-part (s .pre .0) (h .before .before .before .word-count .ensures .0) (c .before .loop-test .taken) (h .loop .inv .1) (s .pre .1)
+    (c .word-length .ensures .0) (h .before .before .distance .ensures)
 
 add-e : tie.Need-add-e Inv-loop μ-loop
 add-e c = record { fits = omega (arith, end-few (part c)) }

@@ -10,7 +10,7 @@ use Rattle.laws.proofs.Tab.{total-none}
 use Rattle.slot_laws.specs.Sizes.{words, wordLength, dataLength}
 use Rattle.slot_repair.specs.Inner.{GatheredTo}
 use Rattle.slot_laws.proofs.Sizes.{words-high}
-use Rattle.slot_laws.proofs.RoomSteps.{WordPart, start-first, next-start, before-end, end-few}
+use Rattle.slot_laws.proofs.RoomSteps.{WordPart, word-part, start-first, next-start, before-end, end-few}
 use Rattle.slot_repair.proofs.BatchSteps.{ends-in, take-fits, next-from, gathered-next, gathered-first}
 use Rattle.slot_repair.proofs.gather.Statement.{statement}
 use Rattle.slot_repair.proofs.gather.Tie as tie
@@ -62,14 +62,8 @@ part : (c : tie.After-word-length Inv-loop μ-loop) → let h = turn c in let a 
 part c =
     let h = turn c in
     let s = begin h in
-    record {
-      range = s .pre .0 .range;
-      inside = omega (arith, s .pre .1 .many, c .before .before .before .loop-test .taken);
-      start = h .loop .inv .3;
-      given = h .loop .inv .4 .given;
-      is = c .word-length .ensures .0;
-      end = omega (arith, h .before .distance .ensures .is);
-    }
+    word-part (s .pre .0 .range) (s .pre .1 .many) (c .before .before .before .loop-test .taken) (h .loop .inv .3) (h .loop .inv .4 .given)
+    (c .word-length .ensures .0) (h .before .distance .ensures)
 
 -- the word itself ends before the end of the slot
 ends : (c : tie.After-word-length Inv-loop μ-loop) → turn c .loop .from + c .word-length .result ≤ 2 * begin (turn c) .args .size
