@@ -100,7 +100,7 @@ narrow {s} {cum} {row} {last} {low} {c} f r g k =
     let e : f .above - f .below ≡ t * (b - a) = rw (k .below, k .above) (sym (mul-sub t b a)) in
     let some : 64 ≤ t * (b - a) = cut-some t a b (omega arith) (r .rises (f .symbol) h) in
     let most : t * (b - a) ≤ c .range = cut-most t a b (c .range) (omega arith) (row-below r (omega arith)) in
-    record { low = omega arith; some = omega arith; range = omega arith; at = g .at; end = g .end }
+    record { low = omega arith; wide = omega arith; range = omega arith; at = g .at; end = g .end }
 
 -- ---- each way through the refill: the range wide again, no byte left, a byte more
 

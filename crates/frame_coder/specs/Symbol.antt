@@ -33,7 +33,12 @@ refillOf s (suc n) v c =
 -- the stream behind symbol v, before bytes are taken: t scales the row, and one symbol more counts
 abbrev pub narrowed : List ℕ → ℕ → ℕ → ℕ → Coder → Coder
 narrowed cum row t v c =
-    record { low = c .low - t * getD cum (row + v) 0; range = t * (getD cum (row + (v + 1)) 0 - getD cum (row + v) 0); at = c .at; taken = c .taken + 1 }
+    record {
+      low = c .low - t * getD cum (row + v) 0;
+      range = t * (getD cum (row + (v + 1)) 0 - getD cum (row + v) 0);
+      at = c .at;
+      taken = c .taken + 1;
+    }
 
 unfoldable pub takenOf : List ℕ → List ℕ → ℕ → ℕ → ℕ → Coder → Read Coder ℕ
 takenOf s cum row t v c = refillOf s 2 v (narrowed cum row t v c)
@@ -47,7 +52,3 @@ symbolOf s cum row last c =
 abbrev pub symbolGiven : Symbol → Read Coder ℕ
 symbolGiven (symbol.Value v c) = value v c
 symbolGiven (symbol.Cause k) = cause k
-
-abbrev pub symbolCause : Symbol → ℕ
-symbolCause (symbol.Value v c) = 0
-symbolCause (symbol.Cause k) = k

@@ -23,8 +23,15 @@ module _ (s : List ℕ) (p : ℕ) (l h m g n j : Field) (f : ShapeFields s p l h
   pub shape-far : jointEnd (m .value) ≤ j .value → shapeOf s p ≡ cause 3
   unfolding shapeOf
   shape-far k =
-      rw (f .low .found, f .high .found, f .mode .found, f .gain .found, f .sign .found, f .joint .found,
-      le-leb (jointEnd (m .value)) (j .value) k)
+      rw (
+        f .low .found,
+        f .high .found,
+        f .mode .found,
+        f .gain .found,
+        f .sign .found,
+        f .joint .found,
+        le-leb (jointEnd (m .value)) (j .value) k,
+      )
 
   pub shape-done :
       j .value < jointEnd (m .value)
@@ -38,8 +45,15 @@ module _ (s : List ℕ) (p : ℕ) (l h m g n j : Field) (f : ShapeFields s p l h
       }) (j .next)
   unfolding shapeOf
   shape-done k =
-      rw (f .low .found, f .high .found, f .mode .found, f .gain .found, f .sign .found, f .joint .found,
-      lt-leb (jointEnd (m .value)) (j .value) k)
+      rw (
+        f .low .found,
+        f .high .found,
+        f .mode .found,
+        f .gain .found,
+        f .sign .found,
+        f .joint .found,
+        lt-leb (jointEnd (m .value)) (j .value) k,
+      )
 
 -- the gain has one or two bits
 pub gain-below : (s : List ℕ) (p q : ℕ) (m g : Field) → GoodField s p 1 m → GoodField s q (1 + m .value) g → g .value < 4

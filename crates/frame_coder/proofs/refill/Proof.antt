@@ -20,7 +20,7 @@ abbrev μ-loop : tie.MeasureT-loop
 μ-loop s v low₀ range₀ at₀ taken n₀ low range at n = n
 
 loop-holds : tie.Need-loop-holds Inv-loop μ-loop
-loop-holds c = let g = c .before .pre .1 in (g .low, g .range, g .at, g .end, omega arith, g .some, omega arith, omega arith, refl)
+loop-holds c = let g = c .before .pre .1 in (g .low, g .range, g .at, g .end, omega arith, g .wide, omega arith, omega arith, refl)
 
 returns : tie.Need-returns Inv-loop μ-loop
 returns c =
