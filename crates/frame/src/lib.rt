@@ -43,7 +43,8 @@ pub fn read(khz: u32, frame: &[u8], spectrum: &mut [i32], residual: &mut [u8]) -
 
 // The two lent buffers, then the side information.
 fn read_sized(r: Setting, frame: &[u8], spectrum: &mut [i32], residual: &mut [u8]) -> Reading
-    requires { ⌜ Known r × Sized (now frame) ⌝ }
+    requires { ⌜ Known r ⌝ }
+    requires { ⌜ Sized (now frame) ⌝ }
     ensures { λ o. ⌜ told o ≡ givenOf (judgedSized r (now (frame .entry)) (length (now (spectrum .entry))) (length (now (residual .entry)))) ⌝ }
     ensures { λ o. ⌜ now (spectrum .exit) ≡ spectrumOf (judgedSized r (now (frame .entry)) (length (now (spectrum .entry))) (length (now (residual .entry)))) (now (spectrum .entry)) ⌝ }
     ensures { λ o. ⌜ now (residual .exit) ≡ residualAfter (judgedSized r (now (frame .entry)) (length (now (spectrum .entry))) (length (now (residual .entry)))) (now (residual .entry)) ⌝ }

@@ -28,4 +28,4 @@ readBits s p n = cond (leb (p + n) (8 * length s)) (value (bitsOf s p n) (p + n)
 
 abbrev pub bitGiven : Bit → Read ℕ ℕ
 bitGiven (bit.Value v p) = value v p
-bitGiven (bit.Cause k) = cause k
+bitGiven bit.Outside = cause 6

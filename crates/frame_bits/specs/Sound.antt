@@ -13,7 +13,7 @@ use Rattle.frame_bits.specs.declared.Bit.the-variants as bit
 -- one bit
 abbrev pub GoodBit : List ℕ → ℕ → Bit → Type 0
 GoodBit s p (bit.Value v q) = (v < 2) × (q ≡ p + 1) × (p < 8 * length s)
-GoodBit s p (bit.Cause k) = k ≡ 6
+GoodBit s p bit.Outside = Unit {0}
 
 -- a field of n bits inside the frame
 pub record GoodField (s : List ℕ) (p n : ℕ) (f : Field) : Type 0 where

@@ -8,10 +8,10 @@ ghost use Rattle.frame_settings.specs.Settings.{Sized};
 ghost use Rattle.frame_bits.specs.Bits.{bitOf, readBit, bitGiven};
 ghost use Rattle.frame_bits.specs.Sound.{GoodBit, GoodField};
 
-// A bit with the next cursor, or the cause of a bit error.
+// A bit with the next cursor; or it would stand outside the frame, which is cause 6.
 pub enum Bit {
     Value(usize, usize),
-    Cause(u8),
+    Outside,
 }
 
 // A field's value with the next cursor.
@@ -21,7 +21,8 @@ pub struct Field {
 }
 
 pub fn wide(x: u8) -> usize
-    ensures { λ r. ⌜ (r ≡ x) × (r < 256) ⌝ }
+    ensures { λ r. ⌜ r ≡ x ⌝ }
+    ensures { λ r. ⌜ r < 256 ⌝ }
 {
     x as usize
 }
@@ -29,7 +30,8 @@ pub fn wide(x: u8) -> usize
 // Bit p of the side stream, which the caller knows to be inside the frame.
 pub fn bit_at(s: &[u8], p: usize) -> usize
     requires { ⌜ p < 8 * length (now s) ⌝ }
-    ensures { λ r. ⌜ (r ≡ bitOf (now (s .entry)) p) × (r < 2) ⌝ }
+    ensures { λ r. ⌜ r ≡ bitOf (now (s .entry)) p ⌝ }
+    ensures { λ r. ⌜ r < 2 ⌝ }
 {
     let at = s.len() - 1 - p / 8;
     (wide(s[at]) >> (p % 8)) % 2
@@ -43,7 +45,7 @@ pub fn read_bit(s: &[u8], p: usize) -> Bit
     if p < 8 * s.len() {
         Bit::Value(bit_at(s, p), p + 1)
     } else {
-        Bit::Cause(6)
+        Bit::Outside
     }
 }
 

@@ -39,8 +39,10 @@ pub fn pairs_cause(r: PairsRead) -> u8
 }
 
 fn base_of(context: usize, offset: usize, half: usize, k: usize) -> usize
-    requires { ⌜ (context < 256) × (offset ≤ 512) ⌝ }
-    ensures { λ r. ⌜ (r ≡ baseOf context offset half k) × (r < 1024) ⌝ }
+    requires { ⌜ context < 256 ⌝ }
+    requires { ⌜ offset ≤ 512 ⌝ }
+    ensures { λ r. ⌜ r ≡ baseOf context offset half k ⌝ }
+    ensures { λ r. ⌜ r < 1024 ⌝ }
 {
     if half < k {
         context + offset + 256

@@ -31,7 +31,8 @@ pub fn left_cause(r: Left) -> u8
 }
 
 fn log2(r: usize) -> usize
-    ensures { λ k. ⌜ (k ≡ log2Of r 23) × (k ≤ 23) ⌝ }
+    ensures { λ k. ⌜ k ≡ log2Of r 23 ⌝ }
+    ensures { λ k. ⌜ k ≤ 23 ⌝ }
 {
     let mut k = 23;
     while 0 < k {
@@ -94,7 +95,8 @@ fn further(v: i32) -> i32
 
 // The sign of a line that was 0.
 fn born(s: &[u8], p: usize, left: usize) -> LateRead
-    requires { ⌜ Sized (now s) × (p + left ≤ 8 * length (now s)) ⌝ }
+    requires { ⌜ Sized (now s) ⌝ }
+    requires { ⌜ p + left ≤ 8 * length (now s) ⌝ }
     ensures { λ r. ⌜ lateGiven r ≡ bornOf (now (s .entry)) p left ⌝ }
     ensures { λ r. ⌜ GoodLate 0 (p + left) r ⌝ }
 {

@@ -25,7 +25,8 @@ pub enum ShapeRead {
 
 // Where the joint index ends, by the mode bit.
 fn joint_end(mode: usize) -> usize
-    ensures { λ r. ⌜ (r ≡ jointEnd mode) × (r < 4294967296) ⌝ }
+    ensures { λ r. ⌜ r ≡ jointEnd mode ⌝ }
+    ensures { λ r. ⌜ r < 4294967296 ⌝ }
 {
     match mode {
         0 => 33460056,

@@ -94,7 +94,8 @@ fn read_head(s: &[u8], r: Setting) -> HeadRead
 
 // The bits of the second filter's flag.
 fn second_flag(bandwidth: usize) -> usize
-    ensures { λ r. ⌜ (r ≡ secondFlag bandwidth) × (r ≤ 1) ⌝ }
+    ensures { λ r. ⌜ r ≡ secondFlag bandwidth ⌝ }
+    ensures { λ r. ⌜ r ≤ 1 ⌝ }
 {
     if bandwidth < 3 { 0 } else { 1 }
 }
