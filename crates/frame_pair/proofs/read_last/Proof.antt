@@ -91,8 +91,7 @@ read-plane-requires : tie.Need-read-plane-requires Inv-loop μ-loop
 read-plane-requires c κs =
     let i = c .before .before .before .before .before .before in
     let l = i .before .loop in
-    let h = begin i .pre in
-    (
+    let h = begin i .pre in (
       h .0 .sized,
       record { mode = h .1 .1 .0; few = omega (arith, i .loop-test .taken); first = l .inv .1; second = l .inv .2 },
     )
@@ -129,8 +128,7 @@ loop-again c =
 
 returns-4 : tie.Need-returns-4 Inv-loop μ-loop
 returns-4 c =
-    let l = c .before .loop in
-    (
+    let l = c .before .loop in (
       sym (last-none _ _ _ _ _ _ _ _ _ _ (c .loop-test .left))
           ∙ l .inv .5,
       (omega arith, omega arith),

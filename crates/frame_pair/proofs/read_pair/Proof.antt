@@ -87,8 +87,7 @@ add-if1-2 c =
 returns-3 : tie.Need-returns-3
 returns-3 c =
     let k = c .before in
-    let b = values-at k in
-    (
+    let b = values-at k in (
       sym (rest b ∙ signed-crossed _ _ _ _ _ _ _ _ _ _ _
           (first (k .before .before .before .before)) (second k) (c .if1 .taken)),
       (omega arith, omega arith),

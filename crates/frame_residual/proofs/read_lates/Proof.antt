@@ -25,14 +25,16 @@ abbrev μ-loop : tie.MeasureT-loop
 μ-loop s levels n lines₀ start room p₀ left₀ k₀ lines p left k = n - k
 
 loop-holds : tie.Need-loop-holds Inv-loop μ-loop
-loop-holds c = (omega arith, search needs, omega arith, room-first _ _ (c .before .before .pre .5), lates-first _ _ _ _ _ _)
+loop-holds c = (omega arith, search needs, omega arith, room-first _ _ (c .before .before .pre .1 .0 .room), lates-first _ _ _ _ _ _)
 
 read-late-requires : tie.Need-read-late-requires Inv-loop μ-loop
 read-late-requires c κs =
     let l = c .before .before .before .before .loop in
     let x = getD (l .lines) (l .k) (pos 0) in
-    let e = toZ-ofZ w32 x (record { sfits = c .read-late-arg .given }) in
-    (c .before .before .before .before .before .before .before .pre .0, omega arith, same-small x _ e (l .inv .3 .small (l .k)))
+    let e = toZ-ofZ w32 x (record { sfits = c .read-late-arg .given }) in (
+      record { sized = c .before .before .before .before .before .before .before .pre .0 .sized; inside = omega arith },
+      same-small x _ e (l .inv .3 .small (l .k)),
+    )
 
 returns : tie.Need-returns Inv-loop μ-loop
 returns c =
