@@ -57,9 +57,8 @@ fn read_sized(r: Setting, frame: &[u8], spectrum: &mut [i32], residual: &mut [u8
     if residual.len() != lines {
         return refused(Answer::Length);
     }
-    let got = frame_side::read_side(frame, r);
-    let SideRead::Value(v, p) = got else {
-        return refused(Answer::BitError(frame_side::side_cause(got)));
-    };
-    read_arithmetic(r, v, p, frame, spectrum, residual)
+    match frame_side::read_side(frame, r) {
+        SideRead::Cause(k) => refused(Answer::BitError(k)),
+        SideRead::Value(v, p) => read_arithmetic(r, v, p, frame, spectrum, residual),
+    }
 }

@@ -12,10 +12,9 @@ use Rattle.coder_tables.proofs.Rules.{order-row, coefficient-row}
 use Rattle.frame_bits.specs.Read.{Read, value, cause}
 use Rattle.frame_settings.specs.Settings.{weighting}
 use Rattle.frame_coder.specs.Symbol.{startOf}
-use Rattle.frame_tns.specs.Tns.{Filter, filterOf, filterGiven, filterCause, unused}
-use Rattle.frame_spectral.specs.Spectral.{Spectral, spectralFrom, spectralGiven, spectralCause}
-use Rattle.frame_arithmetic.specs.Answers.{Whole}
-use Rattle.frame_arithmetic.specs.Answers.{arithmeticFrom}
+use Rattle.frame_tns.specs.Tns.{Filter, filterOf, filterGiven, unused}
+use Rattle.frame_spectral.specs.Spectral.{Spectral, spectralFrom, spectralGiven}
+use Rattle.frame_arithmetic.specs.Answers.{Whole, arithmeticFrom}
 use Rattle.frame_arithmetic.specs.Answers.{Judged, refused, judgedRead, givenOf, spectrumOf, residualAfter, told}
 use Rattle.frame_pairs.specs.Sound.{Small}
 use Rattle.frame_tns.specs.Sound.{TnsTables, GoodFilter}
@@ -80,44 +79,35 @@ pub start-taken : (s : List ℕ) (c : Coder) → c ≡ startOf s → c .taken �
 start-taken s c e = ap (λ (x : Coder). x .taken) e
 
 -- the three refusals: g is what was answered, k its cause
-filter-cause : (s : List ℕ) (c : Coder) (g : FilterRead) (j k : ℕ) → g ≡ filter.Cause j → k ≡ filterCause g → GoodFilter s c g
-    → (j ≡ k) × ((1 ≤ k) × (k ≤ 7))
-filter-cause s c g j k i q a =
-    let b : GoodFilter s c (filter.Cause j) = rw i at a in
-    let e : k ≡ j = q ∙ ap filterCause i in
-    let w = b .0 in
-    let z = b .1 in
-    (sym e, (omega arith, omega arith))
+filter-cause : (s : List ℕ) (c : Coder) (g : FilterRead) (k : ℕ) → g ≡ filter.Cause k → GoodFilter s c g → (1 ≤ k) × (k ≤ 7)
+filter-cause s c g k i a =
+    let b : GoodFilter s c (filter.Cause k) = rw i at a in
+    (omega (arith, b .0), omega (arith, b .1))
 
-pub first-refused : (s : List ℕ) (r : Setting) (v : Side) (p : ℕ) (c : Coder) (g : FilterRead) (l : List ℕ) (j k : ℕ) → firstAt s v ≡ filterGiven g l
-    → g ≡ filter.Cause j → k ≡ filterCause g → GoodFilter s c g → (arithmeticFrom s r v p ≡ cause k) × ((1 ≤ k) × (k ≤ 7))
-first-refused s r v p c g l j k f i q a =
-    let b = filter-cause s c g j k i q a in
-    (arithmetic-first s r v p k (f ∙ ap (λ (x : FilterRead). filterGiven x l) i ∙ ap cause (b .0)), b .1)
+pub first-refused :
+    (s : List ℕ) (r : Setting) (v : Side) (p : ℕ) (c : Coder) (g : FilterRead) (l : List ℕ) (k : ℕ) → firstAt s v ≡ filterGiven g l
+    → g ≡ filter.Cause k → GoodFilter s c g → (arithmeticFrom s r v p ≡ cause k) × ((1 ≤ k) × (k ≤ 7))
+first-refused s r v p c g l k f i a = (arithmetic-first s r v p k (rw i at f), filter-cause s c g k i a)
 
-pub second-refused : (s : List ℕ) (r : Setting) (v : Side) (p : ℕ) (o : Filter) (c : Coder) (g : FilterRead) (l : List ℕ) (j k : ℕ)
-    → firstAt s v ≡ value o c → secondAt s v c ≡ filterGiven g l → g ≡ filter.Cause j → k ≡ filterCause g → GoodFilter s c g
+pub second-refused :
+    (s : List ℕ) (r : Setting) (v : Side) (p : ℕ) (o : Filter) (c : Coder) (g : FilterRead) (l : List ℕ) (k : ℕ)
+    → firstAt s v ≡ value o c → secondAt s v c ≡ filterGiven g l → g ≡ filter.Cause k → GoodFilter s c g
     → (arithmeticFrom s r v p ≡ cause k) × ((1 ≤ k) × (k ≤ 7))
-second-refused s r v p o c g l j k h f i q a =
-    let b = filter-cause s c g j k i q a in
-    (arithmetic-second s r v p k o c h (f ∙ ap (λ (x : FilterRead). filterGiven x l) i ∙ ap cause (b .0)), b .1)
+second-refused s r v p o c g l k h f i a = (arithmetic-second s r v p k o c h (rw i at f), filter-cause s c g k i a)
 
-pub third-refused : (s : List ℕ) (r : Setting) (v : Side) (p : ℕ) (o u : Filter) (c d : Coder) (g : SpectralRead) (lines : List ℤ) (bits : List ℕ)
-    (j k last : ℕ) → firstAt s v ≡ value o c → secondAt s v c ≡ value u d → spectralGiven g lines bits ≡ spectralFrom s r (v .head) d p
-    → g ≡ spectralRead.Cause j → k ≡ spectralCause g → GoodSpectral last g lines → (arithmeticFrom s r v p ≡ cause k) × ((1 ≤ k) × (k ≤ 7))
-third-refused s r v p o u c d g lines bits j k last h w f i q a =
-    let b : GoodSpectral last (spectralRead.Cause j) lines = rw i at a in
-    let e : k ≡ j = q ∙ ap spectralCause i in
-    let y = b .0 in
-    let z = b .1 in
-    let t : spectralFrom s r (v .head) d p ≡ cause k = sym f ∙ ap (λ (x : SpectralRead). spectralGiven x lines bits) i ∙ ap cause (sym e) in
-    (arithmetic-third s r v p k o u c d h w t, (omega arith, omega arith))
+pub third-refused :
+    (s : List ℕ) (r : Setting) (v : Side) (p : ℕ) (o u : Filter) (c d : Coder) (g : SpectralRead) (lines : List ℤ) (bits : List ℕ)
+    (k last : ℕ) → firstAt s v ≡ value o c → secondAt s v c ≡ value u d → spectralGiven g lines bits ≡ spectralFrom s r (v .head) d p
+    → g ≡ spectralRead.Cause k → GoodSpectral last g lines → (arithmeticFrom s r v p ≡ cause k) × ((1 ≤ k) × (k ≤ 7))
+third-refused s r v p o u c d g lines bits k last h w f i a =
+    (arithmetic-third s r v p k o u c d h w (sym (rw i at f)), rw i at a)
 
 -- ---- the answer and both buffers, as a judgement j asks
 
 abbrev pub Answers : Reading → Judged → List ℤ → List ℤ → List ℕ → List ℕ → Type 0
 Answers o j spectrum spectrum′ residual residual′ =
-    (told o ≡ givenOf j) × ((spectrum′ ≡ spectrumOf j spectrum) × ((residual′ ≡ residualAfter j residual) × Bounded (o .answer) spectrum′))
+    (told o ≡ givenOf j)
+    × ((spectrum′ ≡ spectrumOf j spectrum) × ((residual′ ≡ residualAfter j residual) × Bounded (o .answer) spectrum′))
 
 -- the same by an equal judgement
 pub answers-by : (o : Reading) (i j : Judged) (spectrum spectrum′ : List ℤ) (residual residual′ : List ℕ) → i ≡ j

@@ -26,8 +26,6 @@ returns c =
     let e3 = d .read-bits3 .ensures in
     record {
       found = flags-done _ _ _ _ _ _ _ (n .0) e1 e2 e3;
-      tns-0 = e1 .below;
-      tns-1 = tns-1-below b;
       pitch = e3 .below;
       next = omega (arith, e1 .next, e2 .next, e3 .next, n .1);
     }

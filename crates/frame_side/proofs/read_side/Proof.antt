@@ -4,9 +4,9 @@ use native.Mathlib.Omega.{arith}
 use denote.Ref.{now}
 use borrow.Author.Needs.{needs}
 use Rattle.frame_bits.specs.Read.{value}
-use Rattle.frame_side.specs.Side.{headOf, flagsOf, tailOf}
+use Rattle.frame_side.specs.Side.{headOf}
 use Rattle.frame_shape.specs.Shape.{shapeOf}
-use Rattle.frame_side.specs.Sound.{GoodHead, GoodFlags, GoodTail}
+use Rattle.frame_side.specs.Sound.{GoodHead, GoodFlags}
 use Rattle.frame_shape.specs.Sound.{GoodShape}
 use Rattle.frame_side.specs.declared.HeadRead.the-variants as head
 use Rattle.frame_shape.specs.declared.ShapeRead.the-variants as shape
@@ -44,13 +44,13 @@ shape-good : (c : tie.After-shape) → let g = c .shape .given .0 in GoodShape (
 shape-good c = rw (c .shape .given .1) at (c .before .before .read-shape .ensures .1)
 
 read-flags-requires : tie.Need-read-flags-requires
-read-flags-requires c κs = let h = c .before .before in (head-good h .5, start h .pre .1)
+read-flags-requires c κs = let h = c .before .before in (head-good h .1, start h .pre .1)
 
 read-shape-requires : tie.Need-read-shape-requires
 read-shape-requires c κs =
     let f = c .before in
     let h = to-head f in
-    (omega (arith, flags-good f .next, head-good h .5), start h .pre .1)
+    (omega (arith, flags-good f .next, head-good h .1), start h .pre .1)
 
 read-tail-requires : tie.Need-read-tail-requires
 read-tail-requires c κs =
@@ -58,7 +58,7 @@ read-tail-requires c κs =
     let f = to-flags q in
     let h = to-head f in
     let g = flags-good f in
-    (omega (arith, c .wide2 .ensures .0, g .pitch), (omega (arith, head-good h .5, g .next, shape-good q), start h .pre .1))
+    (omega (arith, c .wide2 .ensures .0, g .pitch), (omega (arith, head-good h .1, g .next, shape-good q), start h .pre .1))
 
 returns : tie.Need-returns
 returns c =
@@ -86,7 +86,7 @@ returns-3 c =
     let g = flags-good f in
     let e = rw (t .before .wide2 .ensures .0) at (t .read-tail .ensures) in (
       sym (side-done _ _ _ _ _ _ _ _ _ _ (head-is (to-head f)) (g .found) (shape-is q) (e .found)),
-      (h .1, h .2, h .3, h .4, g .tns-0, g .tns-1, omega (arith, h .5, g .next, shape-good q, e .next)),
+      record { head = h .0; side = omega (arith, h .1, g .next, shape-good q, e .next) },
     )
 
 pub read-side-spec : {M : Type 1} → statement M
