@@ -15,7 +15,7 @@ use Rattle.frame_coder.specs.Symbol.{startOf}
 use Rattle.frame_tns.specs.Tns.{Filter, filterOf, filterGiven, unused}
 use Rattle.frame_spectral.specs.Spectral.{Spectral, spectralFrom, spectralGiven}
 use Rattle.frame_arithmetic.specs.Answers.{Whole, arithmeticFrom}
-use Rattle.frame_arithmetic.specs.Answers.{Judged, refused, judgedRead, givenOf, spectrumOf, residualAfter, told}
+use Rattle.frame_arithmetic.specs.Answers.{Judged, refused, judgedRead, givenOf, Answers, told}
 use Rattle.frame_pairs.specs.Sound.{Small}
 use Rattle.frame_tns.specs.Sound.{TnsTables, GoodFilter}
 use Rattle.frame_spectral.specs.Sound.{GoodSpectral}
@@ -104,38 +104,37 @@ third-refused s r v p o u c d g lines bits k last h w f i a =
 
 -- ---- the answer and both buffers, as a judgement j asks
 
-abbrev pub Answers : Reading → Judged → List ℤ → List ℤ → List ℕ → List ℕ → Type 0
-Answers o j spectrum spectrum′ residual residual′ =
-    (told o ≡ givenOf j)
-    × ((spectrum′ ≡ spectrumOf j spectrum) × ((residual′ ≡ residualAfter j residual) × Bounded (o .answer) spectrum′))
+abbrev pub Answered : Reading → Judged → List ℤ → List ℤ → List ℕ → List ℕ → Type 0
+Answered o j spectrum spectrum′ residual residual′ =
+    Answers (told o) j spectrum spectrum′ residual residual′ × Bounded (o .answer) spectrum′
 
 -- the same by an equal judgement
 pub answers-by : (o : Reading) (i j : Judged) (spectrum spectrum′ : List ℤ) (residual residual′ : List ℕ) → i ≡ j
-    → Answers o j spectrum spectrum′ residual residual′ → Answers o i spectrum spectrum′ residual residual′
+    → Answered o j spectrum spectrum′ residual residual′ → Answered o i spectrum spectrum′ residual residual′
 answers-by o i j spectrum spectrum′ residual residual′ e a = rw e a
 
 pub answers-setting : (o : Reading) (j : Judged) (spectrum : List ℤ) (residual : List ℕ)
     → o ≡ record { answer = answer.Setting; «tns_coefficients_0» = unused; «tns_coefficients_1» = unused } → j ≡ refused 1 0
-    → Answers o j spectrum spectrum residual residual
+    → Answered o j spectrum spectrum residual residual
 unfolding givenOf
-answers-setting o j spectrum residual e f = rw (e, f) (refl, (refl, (refl, tt)))
+answers-setting o j spectrum residual e f = rw (e, f) (record { given = refl; lines = refl; bits = refl }, tt)
 
 pub answers-length : (o : Reading) (j : Judged) (spectrum : List ℤ) (residual : List ℕ)
     → o ≡ record { answer = answer.Length; «tns_coefficients_0» = unused; «tns_coefficients_1» = unused } → j ≡ refused 2 0
-    → Answers o j spectrum spectrum residual residual
+    → Answered o j spectrum spectrum residual residual
 unfolding givenOf
-answers-length o j spectrum residual e f = rw (e, f) (refl, (refl, (refl, tt)))
+answers-length o j spectrum residual e f = rw (e, f) (record { given = refl; lines = refl; bits = refl }, tt)
 
 pub answers-cause : (o : Reading) (x : Read ℕ Whole) (k : ℕ) (spectrum spectrum′ : List ℤ) (residual residual′ : List ℕ)
     → o ≡ record { answer = answer.BitError k; «tns_coefficients_0» = unused; «tns_coefficients_1» = unused } → x ≡ cause k
     → spectrum′ ≡ spectrum → residual′ ≡ residual → (1 ≤ k) × (k ≤ 7)
-    → Answers o (judgedRead x) spectrum spectrum′ residual residual′
+    → Answered o (judgedRead x) spectrum spectrum′ residual residual′
 unfolding givenOf
-answers-cause o x k spectrum spectrum′ residual residual′ e f a b h = rw (e, f, a, b) (refl, (refl, (refl, h)))
+answers-cause o x k spectrum spectrum′ residual residual′ e f a b h = rw (e, f, a, b) (record { given = refl; lines = refl; bits = refl }, h)
 
 pub answers-value : (x : Read ℕ Whole) (v : Side) (f g : Filter) (y : Spectral) (q : ℕ) (spectrum : List ℤ) (residual : List ℕ)
     → x ≡ value (record { side = v; first = f; second = g; spectral = y }) q → (y .symbols ≤ 18 + 7 * v .head .«last_line») × Small (y .lines)
-    → Answers
+    → Answered
     (record {
       answer = answer.Read (record {
         side = v;
@@ -149,4 +148,4 @@ pub answers-value : (x : Read ℕ Whole) (v : Side) (f g : Filter) (y : Spectral
     })
     (judgedRead x) spectrum (y .lines) residual (y .residual .bits)
 unfolding givenOf
-answers-value x v f g y q spectrum residual e h = rw e (refl, (refl, (refl, h)))
+answers-value x v f g y q spectrum residual e h = rw e (record { given = refl; lines = refl; bits = refl }, h)

@@ -5,7 +5,7 @@
 ghost use mathlib.Core.Path.{_≡_};
 ghost use Rattle.frame_settings.specs.Settings.{Known, Sized};
 ghost use Rattle.frame_tns.specs.Tns.{unused};
-ghost use Rattle.frame_arithmetic.specs.Answers.{answered, judgedRead, arithmeticFrom, givenOf, spectrumOf, residualAfter, told};
+ghost use Rattle.frame_arithmetic.specs.Answers.{answered, judgedRead, arithmeticFrom, Answers, told};
 ghost use Rattle.frame_side.specs.Sound.{Sided};
 ghost use Rattle.frame_spectral.specs.Sound.{Buffers};
 ghost use Rattle.frame_arithmetic.specs.Sound.{Bounded};
@@ -76,12 +76,9 @@ pub fn read_arithmetic(
     requires { ⌜ Sized (now frame) ⌝ }
     requires { ⌜ Sided r v p ⌝ }
     requires { ⌜ Buffers r (now spectrum) (now residual) ⌝ }
-    ensures { λ o. ⌜ told o ≡ givenOf (judgedRead (arithmeticFrom (now (frame .entry)) r v p)) ⌝ }
     ensures { λ o. ⌜
-        now (spectrum .exit) ≡ spectrumOf (judgedRead (arithmeticFrom (now (frame .entry)) r v p)) (now (spectrum .entry))
-        ⌝ }
-    ensures { λ o. ⌜
-        now (residual .exit) ≡ residualAfter (judgedRead (arithmeticFrom (now (frame .entry)) r v p)) (now (residual .entry))
+        Answers (told o) (judgedRead (arithmeticFrom (now (frame .entry)) r v p))
+        (now (spectrum .entry)) (now (spectrum .exit)) (now (residual .entry)) (now (residual .exit))
         ⌝ }
     ensures { λ o. ⌜ Bounded (o .answer) (now (spectrum .exit)) ⌝ }
 {

@@ -12,7 +12,7 @@ use lib.IntN.{ℤ}
 use borrow.Author.Tests.{le-leb, ltb-true, ltb-false, eq-eqb, ne-eqb}
 use Rattle.frame_settings.specs.Settings.{rateOf, linesAt, lineCount}
 use Rattle.frame_settings.proofs.Rates.{rate-unknown}
-use Rattle.frame_arithmetic.specs.Answers.{Judged, refused, judgedRead, Given, answered, told, givenOf, refusedWith, spectrumOf, residualAfter}
+use Rattle.frame_arithmetic.specs.Answers.{Judged, refused, judgedRead, Given, answered, told, givenOf, refusedWith, Answers}
 use Rattle.frame.specs.Frame.{judgedAt, judgedOf, frameOf}
 use Rattle.frame_arithmetic.specs.Sound as sound
 use Rattle.frame_settings.specs.declared.Setting.{Setting}
@@ -57,19 +57,25 @@ bounded-at (suc n) h symbols last lines = omega arith
 
 -- ---- a return, from what was judged
 
-pub refusal : (j : Judged) (n : ℕ) (o : SilberlausFrame) (lines : List ℤ) (bits : List ℕ) → j ≡ refused n 0 → 1 ≤ n → frameGiven o ≡ refusedWith n 0
-    → (frameGiven o ≡ givenOf j)
-    × ((lines ≡ spectrumOf j lines) × ((bits ≡ residualAfter j bits) × Bounded (o .number) (o .cause) (o .symbols) (o .«last_line») lines))
+-- the answer, both buffers and the bounds of a judgement
+abbrev Answered : SilberlausFrame → Judged → List ℤ → List ℤ → List ℕ → List ℕ → Type 0
+Answered o j lines lines′ bits bits′ =
+    Answers (frameGiven o) j lines lines′ bits bits′ × Bounded (o .number) (o .cause) (o .symbols) (o .«last_line») lines′
+
+pub refusal :
+    (j : Judged) (n : ℕ) (o : SilberlausFrame) (lines : List ℤ) (bits : List ℕ) → j ≡ refused n 0 → 1 ≤ n
+    → frameGiven o ≡ refusedWith n 0 → Answered o j lines lines bits bits
 unfolding givenOf
 refusal j n o lines bits e h g =
-    rw e (g, (refl, (refl, rw (number-is g, cause-is g) (bounded-at n h (o .symbols) (o .«last_line») lines))))
+    let b = rw (number-is g, cause-is g) (bounded-at n h (o .symbols) (o .«last_line») lines) in
+    rw e (record { given = g; lines = refl; bits = refl }, b)
 
-pub reading : (j k : Judged) (r : Reading) (o : SilberlausFrame) (lines lines′ : List ℤ) (bits bits′ : List ℕ) → k ≡ j
-    → frameGiven o ≡ told r → told r ≡ givenOf k → lines′ ≡ spectrumOf k lines → bits′ ≡ residualAfter k bits → sound.Bounded (r .answer) lines′
-    → (frameGiven o ≡ givenOf j)
-    × ((lines′ ≡ spectrumOf j lines) × ((bits′ ≡ residualAfter j bits) × Bounded (o .number) (o .cause) (o .symbols) (o .«last_line») lines′))
-reading j k r o lines lines′ bits bits′ e g t x y b =
-    rw (← e) (g ∙ t, (x, (y, bounded (r .answer) (r .«tns_coefficients_0») (r .«tns_coefficients_1») o lines′ g b)))
+pub reading :
+    (j k : Judged) (r : Reading) (o : SilberlausFrame) (lines lines′ : List ℤ) (bits bits′ : List ℕ) → k ≡ j → frameGiven o ≡ told r
+    → Answers (told r) k lines lines′ bits bits′ → sound.Bounded (r .answer) lines′ → Answered o j lines lines′ bits bits′
+reading j k r o lines lines′ bits bits′ e g a b =
+    let c = bounded (r .answer) (r .«tns_coefficients_0») (r .«tns_coefficients_1») o lines′ g b in
+    rw (← e) (record { given = g ∙ a .given; lines = a .lines; bits = a .bits }, c)
 
 -- ---- the rate and the two buffers
 

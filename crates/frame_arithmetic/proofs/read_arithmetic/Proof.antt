@@ -120,8 +120,7 @@ read-spectral-requires c κs =
     let t = start-taken (now (z .args .frame)) (s .start .result) (s .start .ensures .0) in
     let g = rw (d .before .m .given .1) at (d .before .before .before .before .filter .ensures .1) in
     let h = rw (b .before .n .given .1) at (b .before .before .before .before .filter2 .ensures .1) in
-    let v = z .pre .1 .1 .0 in
-    (
+    let v = z .pre .1 .1 .0 in (
       z .pre .0,
       (
         v .head,

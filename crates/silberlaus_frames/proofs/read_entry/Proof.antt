@@ -67,7 +67,7 @@ returns-5 c =
     let p = part-read (a .khz) (now (a .bytes)) (a .place) (length (now (a .spectrum))) (length (now (a .residual))) (t .0) (t .1) (t .2) (t .3)
     (now (f .frame .result)) (f .frame .ensures) (λ z. omega (arith, z, c .before .before .before .before .before .before .before .if4 .left)) in
     reading _ _ (r .result) (c .numbered .result) _ _ _ _ p (c .numbered .ensures)
-    (r .ensures .0) (r .ensures .1 .0) (r .ensures .1 .1 .0) (r .ensures .1 .1 .1)
+    (r .ensures .0) (r .ensures .1)
 
 pub read-entry-spec : {M : Type 1} → statement M
 read-entry-spec =
