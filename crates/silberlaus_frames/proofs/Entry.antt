@@ -67,7 +67,8 @@ pub refusal :
     → frameGiven o ≡ refusedWith n 0 → Answered o j lines lines bits bits
 unfolding givenOf
 refusal j n o lines bits e h g =
-    let b = rw (number-is g, cause-is g) (bounded-at n h (o .symbols) (o .«last_line») lines) in
+    let b : Bounded (o .number) (o .cause) (o .symbols) (o .«last_line») lines =
+        rw (number-is g, cause-is g) (bounded-at n h (o .symbols) (o .«last_line») lines) in
     rw e (record { given = g; lines = refl; bits = refl }, b)
 
 pub reading :
