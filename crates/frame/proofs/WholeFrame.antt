@@ -50,7 +50,8 @@ pub judged-unknown : (khz : ℕ) (s : List ℕ) (x b : ℕ) → rateOf khz ≡ r
 unfolding judgedOf
 judged-unknown khz s x b e = rw e
 
-pub judged-short : (khz : ℕ) (s : List ℕ) (x b : ℕ) (r : Setting) → rateOf khz ≡ rate.Known r → length s < 20 → judgedOf khz s x b ≡ refused 1 0
+pub judged-short : (khz : ℕ) (s : List ℕ) (x b : ℕ) (r : Setting) → rateOf khz ≡ rate.Known r → length s < 20
+    → judgedOf khz s x b ≡ refused 1 0
 unfolding judgedOf
 judged-short khz s x b r e h = rw (e, lt-leb 20 (length s) h)
 

@@ -45,7 +45,8 @@ unfoldable pub secondAt : List ℕ → Side → Coder → Read Coder Filter
 secondAt s v c = filterOf s orderTable coefficientTable (weighting (length s)) (v .flags .«tns_1») c
 
 pub first-at : (s : List ℕ) (v : Side) (c : Coder) (orders rows : List ℕ) (w : ℕ) (x : Read Coder Filter) → orders ≡ orderTable
-    → rows ≡ coefficientTable → w ≡ weighting (length s) → c ≡ startOf s → x ≡ filterOf s orders rows w (v .flags .«tns_0») c → firstAt s v ≡ x
+    → rows ≡ coefficientTable → w ≡ weighting (length s) → c ≡ startOf s → x ≡ filterOf s orders rows w (v .flags .«tns_0») c
+    → firstAt s v ≡ x
 unfolding firstAt
 first-at s v c orders rows w x e f l o q = sym (rw (e, f, l, o) at q)
 
@@ -130,10 +131,12 @@ pub answers-cause : (o : Reading) (x : Read ℕ Whole) (k : ℕ) (spectrum spect
     → spectrum′ ≡ spectrum → residual′ ≡ residual → (1 ≤ k) × (k ≤ 7)
     → Answered o (judgedRead x) spectrum spectrum′ residual residual′
 unfolding givenOf
-answers-cause o x k spectrum spectrum′ residual residual′ e f a b h = rw (e, f, a, b) (record { given = refl; lines = refl; bits = refl }, h)
+answers-cause o x k spectrum spectrum′ residual residual′ e f a b h = rw (e, f, a, b)
+    (record { given = refl; lines = refl; bits = refl }, h)
 
 pub answers-value : (x : Read ℕ Whole) (v : Side) (f g : Filter) (y : Spectral) (q : ℕ) (spectrum : List ℤ) (residual : List ℕ)
-    → x ≡ value (record { side = v; first = f; second = g; spectral = y }) q → (y .symbols ≤ 18 + 7 * v .head .«last_line») × Small (y .lines)
+    → x ≡ value (record { side = v; first = f; second = g; spectral = y }) q
+    → (y .symbols ≤ 18 + 7 * v .head .«last_line») × Small (y .lines)
     → Answered
     (record {
       answer = answer.Read (record {

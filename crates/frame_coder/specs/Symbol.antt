@@ -24,7 +24,8 @@ abbrev pub fedOf : List ℕ → Coder → Coder
 fedOf s c =
     record { low = c .low * 256 % 16777216 + getD s (c .at) 0; range = c .range * 256; at = c .at + 1; taken = c .taken }
 
--- a byte is taken while the range is below 2^16; "a byte outside the frame is wanted" is cause 6. Two are enough: a range is at least 2^6 here
+-- a byte is taken while the range is below 2^16; "a byte outside the frame is wanted" is cause 6. Two are enough: a range is at least 2^6
+-- here
 unfoldable pub refillOf : List ℕ → ℕ → ℕ → Coder → Read Coder ℕ
 refillOf s zero v c = value v c
 refillOf s (suc n) v c =

@@ -43,7 +43,8 @@ above-small x a level u h l =
 power-next : (level : ℕ) → 2 ^ (level + 1) ≡ 2 ^ level + 2 ^ level
 power-next level = ap (λ (k : ℕ). 2 ^ k) (add-one level) ∙ two-pow-succ level
 
-grown-by : (lsb level x a : ℕ) → Built lsb level x → a < 2 → lsb ≤ level → (t : Bool) → leb 1 level ≡ t → x + a * 2 ^ level + 1 + lsb ≤ 2 ^ (level + 1)
+grown-by : (lsb level x a : ℕ) → Built lsb level x → a < 2 → lsb ≤ level → (t : Bool) → leb 1 level ≡ t
+    → x + a * 2 ^ level + 1 + lsb ≤ 2 ^ (level + 1)
 grown-by lsb level x a b h k true e =
     let p = power-next level in
     let m : a * 2 ^ level ≤ 1 * 2 ^ level = mul-le-mul-right (2 ^ level) (omega arith) in

@@ -71,7 +71,8 @@ module _ (r : Setting) (t : T (sound r)) where
   some-lines : 0 < r .lines
   some-lines =
       ltb→lt 0 (r .lines)
-      (both-left (ltb 0 (r .lines)) (leb (r .lines) 400) (both-left (both (ltb 0 (r .lines)) (leb (r .lines) 400)) (both (even r) (bounds r)) t))
+      (both-left (ltb 0 (r .lines)) (leb (r .lines) 400) (both-left (both (ltb 0 (r .lines)) (leb (r .lines) 400))
+      (both (even r) (bounds r)) t))
 
   known : Known r
   known =

@@ -27,7 +27,8 @@ module _ (s : List ℕ) (r : Setting) (b : Field) (e : GoodField s 0 (r .bandwid
 
     pub head-done :
         2 * (f .value + 1) ≤ r .lines → (m g : Field) → GoodField s (f .next) 1 m → GoodField s (m .next) 8 g
-        → headOf s r ≡ value (record { bandwidth = b .value; «last_line» = 2 * (f .value + 1); «lsb_mode» = m .value; gain = g .value }) (g .next)
+        → headOf s r
+        ≡ value (record { bandwidth = b .value; «last_line» = 2 * (f .value + 1); «lsb_mode» = m .value; gain = g .value }) (g .next)
     unfolding headOf
     head-done l m g i j =
         rw (e .found, le-ltb (r .index) (b .value) k, d .found, le-ltb (r .lines) (2 * (f .value + 1)) l, i .found, j .found)

@@ -65,14 +65,16 @@ pairsAt s r h c p =
     (replicate 400 (pos 0)) (replicate 200 0)
 
 pub pairs-at : (s : List ℕ) (r : Setting) (h : Head) (c : Coder) (p : ℕ) (look cum : List ℕ) (lsb offset n : ℕ) (x : Read Streams Spectrum)
-    → look ≡ byContext lookTable → cum ≡ spectrumTable → lsb ≡ h .«lsb_mode» → offset ≡ rateOffset (r .index) (length s) → n ≡ h .«last_line» / 2
+    → look ≡ byContext lookTable → cum ≡ spectrumTable → lsb ≡ h .«lsb_mode» → offset ≡ rateOffset (r .index) (length s)
+    → n ≡ h .«last_line» / 2
     → x ≡ pairsOf s (byLevel look) cum (record { lsb = lsb; offset = offset; half = r .lines / 2 }) n 0 0 c p
     (replicate 400 (pos 0)) (replicate 200 0)
     → pairsAt s r h c p ≡ x
 unfolding pairsAt
 pairs-at s r h c p look cum lsb offset n x e f l o m q = sym (rw (standard look e, f, l, o, m) at q)
 
-pub spectral-pairs : (s : List ℕ) (r : Setting) (h : Head) (c : Coder) (p k : ℕ) → pairsAt s r h c p ≡ cause k → spectralFrom s r h c p ≡ cause k
+pub spectral-pairs : (s : List ℕ) (r : Setting) (h : Head) (c : Coder) (p k : ℕ) → pairsAt s r h c p ≡ cause k
+    → spectralFrom s r h c p ≡ cause k
 unfolding spectralFrom pairsAt
 spectral-pairs s r h c p k e = rw e
 
@@ -89,11 +91,13 @@ spectral-value s r h c d p q left x e f = rw (e, f)
 
 pub spectral-is : (s : List ℕ) (r : Setting) (h : Head) (x : Spectrum) (lsb last n taken q left number : ℕ) (out : List ℤ) (bits : List ℕ)
     → lsb ≡ h .«lsb_mode» → last ≡ h .«last_line» → n ≡ r .lines
-    → _≡_ {A = Residual} (record { number = number; bits = bits }) (sentBits s lsb n x q left) → out ≡ take n (finishedOf s lsb last x q left)
+    → _≡_ {A = Residual} (record { number = number; bits = bits }) (sentBits s lsb n x q left)
+    → out ≡ take n (finishedOf s lsb last x q left)
     → _≡_ {A = Read ℕ Spectral} (value (record { symbols = taken; lines = out; residual = record { number = number; bits = bits } }) q)
     (value (spectralOf s r h x taken q left) q)
 spectral-is s r h x lsb last n taken q left number out bits i j m b o =
-    let c : _≡_ {A = Residual} (record { number = number; bits = bits }) (sentBits s (h .«lsb_mode») (r .lines) x q left) = rw (i, m) at b in
+    let c : _≡_ {A = Residual} (record { number = number; bits = bits }) (sentBits s (h .«lsb_mode») (r .lines) x q left) = rw (i, m) at b
+    in
     let d : out ≡ take (r .lines) (finishedOf s (h .«lsb_mode») (h .«last_line») x q left) = rw (i, j, m) at o in
     ap (λ (t : Residual). value (record { symbols = taken; lines = out; residual = t }) q) c
     ∙ ap (λ (l : List ℤ). value (record { symbols = taken; lines = l; residual = sentBits s (h .«lsb_mode») (r .lines) x q left }) q) d

@@ -16,7 +16,8 @@ use frame_residual::Left;
 use frame_settings::Setting;
 use frame_side::Head;
 
-// The number of symbols taken, that of the residual bits and the side cursor, or a cause; lines and residual bits stand in the lent buffers.
+// The number of symbols taken, that of the residual bits and the side cursor, or a cause. Lines and residual bits stand in the lent
+// buffers.
 pub enum SpectralRead {
     Value(u16, u16, usize),
     Cause(u8),

@@ -1,4 +1,5 @@
-// A frame read into its fields under C names, lent as it is or as an entry of a record, and the number of lines. It stands over `silberlaus_frames`.
+// A frame read into its fields under C names, lent as it is or as an entry of a record, and the number of lines. It stands over
+// `silberlaus_frames`.
 ghost use mathlib.Core.Path.{_≡_};
 ghost use lib.ListN.{length};
 ghost use Rattle.frame_settings.specs.Settings.{lineCount};

@@ -32,8 +32,10 @@ before-second g = g .before .before .before .before
 abbrev second : tie.After-known-told4 → tie.After-filter2
 second b = b .before .before .before .before
 
-filter-tables : (s : tie.After-start) → TnsTables (s .before .before .before .before .tns-order .result) (s .before .before .before .tns-coefficients .result)
-filter-tables s = tns-tables _ _ (s .before .before .before .before .tns-order .ensures) (s .before .before .before .tns-coefficients .ensures)
+filter-tables : (s : tie.After-start)
+    → TnsTables (s .before .before .before .before .tns-order .result) (s .before .before .before .tns-coefficients .result)
+filter-tables s = tns-tables _ _ (s .before .before .before .before .tns-order .ensures)
+    (s .before .before .before .tns-coefficients .ensures)
 
 filter-requires : tie.Need-filter-requires
 filter-requires c κs =
@@ -46,7 +48,8 @@ filter-requires c κs =
 
 -- the first filter, as it was read
 first-found : (f : tie.After-filter)
-    → firstAt (now (entry (started f) .args .frame)) (entry (started f) .args .v) ≡ filterGiven (f .filter .result) (f .filter .last .1 .1 .1 .1 .1 .0)
+    → firstAt (now (entry (started f) .args .frame)) (entry (started f) .args .v)
+    ≡ filterGiven (f .filter .result) (f .filter .last .1 .1 .1 .1 .1 .0)
 first-found f =
     let s = started f in
     let z = entry s .args in
@@ -63,7 +66,8 @@ coder-1 b = b .before .m .given .0 .1 .0
 
 first-taken : (b : tie.After-known-told2)
     → firstAt (now (entry (started (first b)) .args .frame)) (entry (started (first b)) .args .v) ≡ value (filter-1 b) (coder-1 b)
-first-taken b = first-found (first b) ∙ ap (λ (g : FilterRead). filterGiven g (first b .filter .last .1 .1 .1 .1 .1 .0)) (b .before .m .given .1)
+first-taken b = first-found (first b) ∙ ap (λ (g : FilterRead). filterGiven g (first b .filter .last .1 .1 .1 .1 .1 .0))
+    (b .before .m .given .1)
 
 returns : tie.Need-returns
 returns c =
@@ -100,7 +104,8 @@ filter-2 b = record { order = b .before .n .given .0 .0; coefficients = second b
 
 second-taken : (b : tie.After-known-told4) → let z = entry (started (first (before-second (second b)))) .args in
     secondAt (now (z .frame)) (z .v) (coder-1 (before-second (second b))) ≡ value (filter-2 b) (b .before .n .given .0 .1 .0)
-second-taken b = second-found (second b) ∙ ap (λ (g : FilterRead). filterGiven g (second b .filter2 .last .1 .1 .1 .1 .1 .0)) (b .before .n .given .1)
+second-taken b = second-found (second b) ∙ ap (λ (g : FilterRead). filterGiven g (second b .filter2 .last .1 .1 .1 .1 .1 .0))
+    (b .before .n .given .1)
 
 returns-2 : tie.Need-returns-2
 returns-2 c =
@@ -136,7 +141,8 @@ returns-3 c =
     let d = before-second (second b) in
     let z = entry (started (first d)) .args in
     let i = c .before .before .k3 .given .1 in
-    let e = third-refused _ (z .r) _ (z .p) _ _ _ _ (r .result) _ _ _ _ (first-taken d) (second-taken b) (r .ensures .0) i (r .ensures .1 .1) in
+    let e = third-refused _ (z .r) _ (z .p) _ _ _ _ (r .result) _ _ _ _ (first-taken d) (second-taken b) (r .ensures .0) i
+    (r .ensures .1 .1) in
     let k = rw i at (r .ensures .1 .0) in
     answers-cause (c .refused3 .result) _ _ _ _ _ _ (c .refused3 .ensures) (e .0) (k .0) (k .1) (e .1)
 

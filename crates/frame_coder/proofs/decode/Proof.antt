@@ -26,7 +26,8 @@ returns-2 c =
     let h = f .before .before .before .before in
     let a = h .args in
     let g = f .find .ensures in
-    let e = symbol-taken (a .s .now) (a .cum .now) (a .row) (a .last) (a .c .low) (f .find .result) (a .c) (f .before .if1 .left) (g .0) (g .1) in (
+    let e = symbol-taken (a .s .now) (a .cum .now) (a .row) (a .last) (a .c .low) (f .find .result) (a .c) (f .before .if1 .left) (g .0)
+    (g .1) in (
       c .refill .ensures .0 ∙ sym e,
       good-symbol (a .s .now) (a .last) (f .find .result .symbol) (a .c) _ (c .refill .result) (g .1 .symbol) refl (c .refill .ensures .1),
     )

@@ -1,4 +1,5 @@
--- `frame_coder::find` meets its contract. The loop carries the scaled entries round the symbol reached; the row rises, so it is the largest. Assumes nothing.
+-- `frame_coder::find` meets its contract. The loop carries the scaled entries round the symbol reached; the row rises, so it is the
+-- largest. Assumes nothing.
 use mathlib.Core.Path.{_≡_, sym, ap}
 use Prim.Native.Nat.{ℕ, _+_, _-_, _*_, _≤_, _<_}
 use native.Mathlib.Omega.{arith}
@@ -53,7 +54,8 @@ mul-entry-2 : tie.Need-mul-entry-2 Inv-loop μ-loop
 mul-entry-2 c = let m = more c in record { fits = omega arith }
 
 shared-slice-read-entry-2 : tie.Need-shared-slice-read-entry-2 Inv-loop μ-loop
-shared-slice-read-entry-2 c = let m = more (c .before) in let h = c .before .before .before .before .before .before .pre .0 .row .inside in omega arith
+shared-slice-read-entry-2 c = let m = more (c .before) in let h = c .before .before .before .before .before .before .pre .0 .row .inside in
+    omega arith
 
 mul-above-2 : tie.Need-mul-above-2 Inv-loop μ-loop
 mul-above-2 c =
@@ -77,7 +79,8 @@ returns c =
     let i = l .inv in
     let h = c .before .before .before .before .before in
     let a = h .args in (
-      sym (largest-is (a .t) (a .low) (l .v) (a .last) (h .pre .0 .row) (rw (i .1) at (i .3)) (i .0) (le-refl (a .last)) (λ k. rw (i .2) at (c .loop-test .left))),
+      sym (largest-is (a .t) (a .low) (l .v) (a .last) (h .pre .0 .row) (rw (i .1) at (i .3)) (i .0) (le-refl (a .last))
+          (λ k. rw (i .2) at (c .loop-test .left))),
       record { symbol = i .0; below = i .1; above = i .2; under = i .3 },
     )
 

@@ -1,4 +1,5 @@
--- `frame_coder::refill` meets its contract. The loop keeps what is still to be taken equal to the whole; two bytes are enough. Assumes nothing.
+-- `frame_coder::refill` meets its contract. The loop keeps what is still to be taken equal to the whole; two bytes are enough. Assumes
+-- nothing.
 use mathlib.Core.Path.{_≡_, refl, sym, _∙_}
 use Prim.Native.Nat.{_+_, _-_, _*_, _≤_, _<_}
 use native.Mathlib.Omega.{arith}

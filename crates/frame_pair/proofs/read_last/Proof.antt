@@ -43,7 +43,8 @@ decode-requires c κs =
     let p = s .pre in (
       record { sized = p .0 .sized; sound = l .inv .4; taken = omega (arith, l .inv .3, l .inv .0, p .0 .taken) },
       record {
-        row = row-at (byLevel (now (a .look))) (now (a .cum)) (a .base) (l .level) (c .row-of .result) (p .1 .0 .rows) (p .1 .1 .1) (c .row-of .ensures .0);
+        row = row-at (byLevel (now (a .look))) (now (a .cum)) (a .base) (l .level) (c .row-of .result) (p .1 .0 .rows) (p .1 .1 .1)
+            (c .row-of .ensures .0);
         place = c .row-of .ensures .1;
         short = omega arith;
       },

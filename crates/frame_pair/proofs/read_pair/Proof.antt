@@ -55,7 +55,8 @@ returns c =
     (sym (rest (d .before) ∙ signed-first _ _ _ _ _ _ _ _ (sym f)), (omega arith, omega arith))
 
 -- the two signs
-first : (k : tie.After-known-told3) → let b = k .before .before .before .before in let l = b .before .before in let v = k .before .got .given .0 in
+first : (k : tie.After-known-told3)
+    → let b = k .before .before .before .before in let l = b .before .before in let v = k .before .got .given .0 in
     signOf (now (begin l .args .s)) (b .before .above .result) (l .before .l .given .0 .1 .1 .0) ≡ value (v .0) (v .1 .0)
 first k = sym (rw (k .before .got .given .1) at (k .before .before .before .read-sign .ensures .0))
 

@@ -114,7 +114,8 @@ loop-again c =
       g .3,
       g .5,
       omega (arith, g .4, l .inv .6),
-      roomy-store (a .o .lsb) (l .lines) (l .levels) (l .k) q (l .inv .7) (inside k) (l .inv .1) (l .inv .2) (g .0) (g .1) (t .last .0) (t .ensures),
+      roomy-store (a .o .lsb) (l .lines) (l .levels) (l .k) q (l .inv .7) (inside k) (l .inv .1) (l .inv .2) (g .0) (g .1) (t .last .0)
+          (t .ensures),
       pairs-more _ _ _ _ _ _ _ _ _ _ _ q _ _ (t .last .0) (i .loop-test .taken) (known k) (t .ensures) ∙ l .inv .8,
     )
 

@@ -42,9 +42,11 @@ returns-2 c =
     let n = length (now (a .spectrum)) in
     let l = r .last .1 .1 .1 .0 in
     let z = b .if1 .left in (
-      sent-one (now (a .s)) (a .lsb) _ (a .p) (a .left) (now (a .lines)) (now (a .levels)) _ _ z (s .pre .1 .1 .0) (b .before .before .before .clear .ensures),
+      sent-one (now (a .s)) (a .lsb) _ (a .p) (a .left) (now (a .lines)) (now (a .levels)) _ _ z (s .pre .1 .1 .0)
+          (b .before .before .before .clear .ensures),
       (
-        finished-one (now (a .s)) (a .lsb) n (a .last) (a .p) (a .left) (now (a .lines)) l _ (now (a .levels)) z (r .ensures .0) (k .ensures),
+        finished-one (now (a .s)) (a .lsb) n (a .last) (a .p) (a .left) (now (a .lines)) l _ (now (a .levels)) z (r .ensures .0)
+            (k .ensures),
         (copy-small n l _ (k .ensures) (r .ensures .1), omega arith),
       ),
     )

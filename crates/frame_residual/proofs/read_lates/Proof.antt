@@ -1,4 +1,5 @@
--- `frame_residual::read_lates` meets its contract. The invariant: what is still to be read gives the whole, and the lines to come have room.
+-- `frame_residual::read_lates` meets its contract. The invariant: what is still to be read gives the whole, and the lines to come have
+-- room.
 -- Assumes nothing.
 use Rattle.frame_residual.proofs.read_lates.Statement.{statement}
 use Rattle.frame_residual.proofs.read_lates.Tie as tie
@@ -12,7 +13,8 @@ use mir.Syntax.{w32}
 use mir.Val.{toZ, ofZ}
 use mir.ValLaws.{toZ-ofZ}
 use Rattle.frame_residual.specs.Residual.{latesOf, lateGiven}
-use Rattle.frame_residual.proofs.LateBits.{lates-first, lates-done, lates-skip, lates-stop, lates-more, RoomFrom, room-first, room-skip, room-next, room-last}
+use Rattle.frame_residual.proofs.LateBits.{lates-first, lates-done, lates-skip, lates-stop, lates-more}
+use Rattle.frame_residual.proofs.LateBits.{RoomFrom, room-first, room-skip, room-next, room-last}
 use Rattle.frame_residual.proofs.LateBits.{same-small, small-fits}
 use borrow.Author.Needs.{needs}
 
@@ -45,7 +47,8 @@ returns c =
     let x = getD (l .lines) (l .k) (pos 0) in
     let i = toZ-ofZ w32 x (record { sfits = r .before .read-late-arg .given }) in
     let f = sym (r .read-late .ensures .0) ∙ ap lateGiven (c .enum-told .given .1) in
-    let e = lates-stop (now (a .s)) (now (a .levels)) (a .n) (l .k) (l .lines) (l .p) (l .left) _ (b .loop-test .taken) (r .before .before .if1 .taken) i f in
+    let e = lates-stop (now (a .s)) (now (a .levels)) (a .n) (l .k) (l .lines) (l .p) (l .left) _ (b .loop-test .taken)
+    (r .before .before .if1 .taken) i f in
     (sym (sym (l .inv .4) ∙ e), room-last _ _ _ (l .inv .3))
 
 loop-again : tie.Need-loop-again Inv-loop μ-loop

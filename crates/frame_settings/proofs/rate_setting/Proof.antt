@@ -22,12 +22,11 @@ returns-5 : tie.Need-returns-5
 returns-5 c = rate-row _ 48 _ _ (omega arith) refl (c .known5 .ensures)
 
 returns-6 : tie.Need-returns-6
-returns-6 c =
-    (
-      rate-other (c .before .args .khz)
-          (λ e. omega arith, (λ e. omega arith, (λ e. omega arith, (λ e. omega arith, (λ e. omega arith, tt))))),
-      tt,
-    )
+returns-6 c = (
+  rate-other (c .before .args .khz)
+      (λ e. omega arith, (λ e. omega arith, (λ e. omega arith, (λ e. omega arith, (λ e. omega arith, tt))))),
+  tt,
+)
 
 pub rate-setting-spec : {M : Type 1} → statement M
 rate-setting-spec =

@@ -48,7 +48,11 @@ returns-3 c =
     let e3 = d .before .read-bits3 .ensures in
     let e4 = d .read-bits4 .ensures in (
       sym (head-done _ _ _ e1 k _ e2 l _ _ e3 e4),
-      (record { even = omega arith; last = l; lsb = e3 .below }, omega (arith, e1 .next, e2 .next, e3 .next, e4 .next, p .bandwidth, p .pair)),
+      (
+        record { even = omega arith; last = l; lsb = e3 .below },
+        omega
+            (arith, e1 .next, e2 .next, e3 .next, e4 .next, p .bandwidth, p .pair),
+      ),
     )
 
 pub read-head-spec : {M : Type 1} → statement M

@@ -40,7 +40,8 @@ shape-is :
     shapeOf (now (start (to-head f) .args .s)) (f .read-flags .result .next) ≡ value (g .0) (g .1 .0)
 shape-is c = sym (rw (c .shape .given .1) at (c .before .before .read-shape .ensures .0))
 
-shape-good : (c : tie.After-shape) → let g = c .shape .given .0 in GoodShape (to-flags c .read-flags .result .next) (shape.Value (g .0) (g .1 .0))
+shape-good : (c : tie.After-shape)
+    → let g = c .shape .given .0 in GoodShape (to-flags c .read-flags .result .next) (shape.Value (g .0) (g .1 .0))
 shape-good c = rw (c .shape .given .1) at (c .before .before .read-shape .ensures .1)
 
 read-flags-requires : tie.Need-read-flags-requires

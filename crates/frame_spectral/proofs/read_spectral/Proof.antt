@@ -11,7 +11,8 @@ use Rattle.frame_pairs.specs.Pairs.{Spectrum, pairsGiven}
 use Rattle.frame_residual.specs.Residual.{leftGiven}
 use Rattle.frame_pairs.specs.declared.PairsRead.{PairsRead}
 use Rattle.frame_residual.specs.declared.Left.{Left}
-use Rattle.frame_spectral.proofs.SpectralSteps.{tables, roomy-zeros, pairsAt, pairs-at, pairs-refused, left-refused, spectral-value, spectral-is}
+use Rattle.frame_spectral.proofs.SpectralSteps.{tables, roomy-zeros, pairsAt, pairs-at}
+use Rattle.frame_spectral.proofs.SpectralSteps.{pairs-refused, left-refused, spectral-value, spectral-is}
 
 -- the places that several needs look back to
 abbrev entry : tie.After-rate-offset → tie.Start
@@ -95,7 +96,10 @@ finish-requires c κs =
         record { lines = search needs; levels = search needs; room = g .3 },
         (
           z .1 .1 .1 .1 .residual ∙ sym (z .1 .1 .1 .1 .spectrum),
-          (omega (arith, z .1 .1 .1 .1 .spectrum, z .0 .lines), (omega (arith, w, z .1 .0 .lsb), omega (arith, z .1 .0 .last, z .0 .lines))),
+          (
+            omega (arith, z .1 .1 .1 .1 .spectrum, z .0 .lines),
+            (omega (arith, w, z .1 .0 .lsb), omega (arith, z .1 .0 .last, z .0 .lines)),
+          ),
         ),
       ),
     )
@@ -121,7 +125,8 @@ returns-3 c =
     let k = c .before .before .before .before .before .before .before .before .before .before .before in
     let l = sym (k .before .before .bits-left .ensures .0) ∙ ap (λ (y : Left). leftGiven y q) (k .left .given .1) in
     let e = spectral-value (now (a .frame)) (a .r) (a .h) (a .c) d (a .p) q _ x (taken b) l in
-    let i = spectral-is (now (a .frame)) (a .r) (a .h) x _ _ _ (d .taken) q _ _ _ _ w refl (z .pre .1 .1 .1 .1 .spectrum) (f .ensures .0) (f .ensures .1 .0) in
+    let i = spectral-is (now (a .frame)) (a .r) (a .h) x _ _ _ (d .taken) q _ _ _ _ w refl (z .pre .1 .1 .1 .1 .spectrum) (f .ensures .0)
+    (f .ensures .1 .0) in
     (i ∙ sym e, (tt, (omega (arith, g .0, z .pre .1 .1 .0 .taken, z .pre .1 .0 .even), f .ensures .1 .1 .0)))
 
 pub read-spectral-spec : {M : Type 1} → statement M

@@ -21,8 +21,14 @@ abbrev μ-loop : tie.MeasureT-loop
 loop-holds : tie.Need-loop-holds Inv-loop μ-loop
 loop-holds c =
     let h = c .before .before .before in
-    let a = h .args in
-    (omega arith, h .pre .1 .1 .1, h .pre .0 .sound, omega arith, coefficients-all (a .s .now) (a .rows .now) (a .n) (a .out .now) (a .first))
+    let a = h .args in (
+      omega arith,
+      h .pre .1 .1 .1,
+      h .pre .0 .sound,
+      omega arith,
+      coefficients-all (a .s .now) (a .rows .now) (a .n) (a .out .now)
+          (a .first),
+    )
 
 decode-requires : tie.Need-decode-requires Inv-loop μ-loop
 decode-requires c κs =
@@ -73,8 +79,10 @@ returns-2 : tie.Need-returns-2 Inv-loop μ-loop
 returns-2 c =
     let h = c .before in
     let l = h .loop in
-    let a = h .before .before .before .before .args in
-    (sym (coefficients-done (a .s .now) (a .rows .now) (a .n) (l .k) (l .out) (l .c) (c .loop-test .left)) ∙ l .inv .4, (omega arith, l .inv .2))
+    let a = h .before .before .before .before .args in (
+      sym (coefficients-done (a .s .now) (a .rows .now) (a .n) (l .k) (l .out) (l .c) (c .loop-test .left)) ∙ l .inv .4,
+      (omega arith, l .inv .2),
+    )
 
 pub coefficients-spec : {M : Type 1} → statement M
 coefficients-spec =

@@ -84,8 +84,10 @@ returns-4 c =
     let e = c .before .end .given .1 in
     let z = sym (rw (e, start d .pre .1 .1 .1) at (q .coefficients .ensures .0)) in
     let g = rw e at (q .coefficients .ensures .1) in
-    let m = order v in
-    (sym (filter-whole _ _ _ _ _ _ _ _ _ _ (d .before .if1 .left) (order-is v) z), (omega (arith, m .0), omega (arith, m .0, m .1, g .0), g .1))
+    let m = order v in (
+      sym (filter-whole _ _ _ _ _ _ _ _ _ _ (d .before .if1 .left) (order-is v) z),
+      (omega (arith, m .0), omega (arith, m .0, m .1, g .0), g .1),
+    )
 
 pub filter-spec : {M : Type 1} → statement M
 filter-spec =
