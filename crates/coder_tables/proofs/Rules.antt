@@ -79,7 +79,8 @@ below-from t h i p =
     let b : ℕ = i % 64 in
     let e : a * 64 + b ≡ i = omega arith in
     let s : List ℕ = drop (a * 64) t in
-    let l : getD s b 0 < 64 = ltb→lt (getD s b 0) 64 (laws.at 64 (below-test s) (laws.at 64 (part-test t) h a (omega arith)) b (omega arith)) in
+    let l : getD s b 0 < 64 = ltb→lt (getD s b 0) 64 (laws.at 64 (below-test s) (laws.at 64 (part-test t) h a (omega arith)) b
+    (omega arith)) in
     let g : getD s b 0 ≡ getD t i 0 = getD-drop (a * 64) t b 0 ∙ ap (λ (k : ℕ). getD t k 0) e in
     omega arith
 

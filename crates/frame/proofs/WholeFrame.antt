@@ -1,6 +1,6 @@
 -- The whole frame (5.4.2): what each return of the reader's own functions says, from what was found up to it.
 -- Assumes nothing.
-use mathlib.Core.Path.{_≡_, sym, ap, _∙_}
+use mathlib.Core.Path.{_≡_, sym}
 use mathlib.Core.List.{List}
 use Prim.Native.Nat.{ℕ, _≤_, _<_}
 use native.Mathlib.Omega.{arith}
@@ -8,7 +8,7 @@ use lib.ListN.{length}
 use borrow.Author.Tests.{eq-eqb, ne-eqb, le-leb, lt-leb}
 use Rattle.frame_bits.specs.Read.{value, cause}
 use Rattle.frame_settings.specs.Settings.{rateOf}
-use Rattle.frame_side.specs.Side.{sideOf, sideGiven, sideCause}
+use Rattle.frame_side.specs.Side.{sideOf, sideGiven}
 use Rattle.frame_arithmetic.specs.Answers.{arithmeticFrom}
 use Rattle.frame.specs.Frame.{frameOf}
 use Rattle.frame_arithmetic.specs.Answers.{refused, judgedRead}
@@ -26,14 +26,12 @@ pub frame-side : (s : List ℕ) (r : Setting) (k : ℕ) → sideOf s r ≡ cause
 unfolding frameOf
 frame-side s r k e = rw e
 
-pub side-refused : (s : List ℕ) (r : Setting) (g : SideRead) (j k : ℕ) → sideGiven g ≡ sideOf s r → g ≡ side.Cause j → k ≡ sideCause g
-    → GoodSide r g → (frameOf s r ≡ cause k) × ((1 ≤ k) × (k ≤ 7))
-side-refused s r g j k f i q a =
-    let b : GoodSide r (side.Cause j) = rw i at a in
-    let e : k ≡ j = q ∙ ap sideCause i in
-    let w = b .0 in
-    let z = b .1 in
-    (frame-side s r k (sym f ∙ ap sideGiven i ∙ ap cause (sym e)), (omega arith, omega arith))
+pub side-refused :
+    (s : List ℕ) (r : Setting) (g : SideRead) (k : ℕ) → sideGiven g ≡ sideOf s r → g ≡ side.Cause k → GoodSide r g
+    → (frameOf s r ≡ cause k) × ((1 ≤ k) × (k ≤ 7))
+side-refused s r g k f i a =
+    let b : GoodSide r (side.Cause k) = rw i at a in
+    (frame-side s r k (sym (rw i at f)), (b .0, omega (arith, b .1)))
 
 pub frame-rest : (s : List ℕ) (r : Setting) (v : Side) (p : ℕ) → sideOf s r ≡ value v p → frameOf s r ≡ arithmeticFrom s r v p
 unfolding frameOf
@@ -52,7 +50,8 @@ pub judged-unknown : (khz : ℕ) (s : List ℕ) (x b : ℕ) → rateOf khz ≡ r
 unfolding judgedOf
 judged-unknown khz s x b e = rw e
 
-pub judged-short : (khz : ℕ) (s : List ℕ) (x b : ℕ) (r : Setting) → rateOf khz ≡ rate.Known r → length s < 20 → judgedOf khz s x b ≡ refused 1 0
+pub judged-short : (khz : ℕ) (s : List ℕ) (x b : ℕ) (r : Setting) → rateOf khz ≡ rate.Known r → length s < 20
+    → judgedOf khz s x b ≡ refused 1 0
 unfolding judgedOf
 judged-short khz s x b r e h = rw (e, lt-leb 20 (length s) h)
 

@@ -6,7 +6,7 @@ ghost use mathlib.Core.Path.{_≡_};
 ghost use lib.ListN.{length};
 ghost use Rattle.frame_settings.specs.Settings.{Known, Sized};
 ghost use Rattle.frame.specs.Frame.{judgedOf, judgedSized};
-ghost use Rattle.frame_arithmetic.specs.Answers.{givenOf, spectrumOf, residualAfter, told};
+ghost use Rattle.frame_arithmetic.specs.Answers.{Answers, told};
 ghost use Rattle.frame_arithmetic.specs.Sound.{Bounded};
 pub use frame_arithmetic::Answer;
 pub use frame_arithmetic::Fields;
@@ -25,9 +25,10 @@ pub use frame_side::Tail;
 
 // One frame, by clause 5.4.2.
 pub fn read(khz: u32, frame: &[u8], spectrum: &mut [i32], residual: &mut [u8]) -> Reading
-    ensures { λ r. ⌜ told r ≡ givenOf (judgedOf khz (now (frame .entry)) (length (now (spectrum .entry))) (length (now (residual .entry)))) ⌝ }
-    ensures { λ r. ⌜ now (spectrum .exit) ≡ spectrumOf (judgedOf khz (now (frame .entry)) (length (now (spectrum .entry))) (length (now (residual .entry)))) (now (spectrum .entry)) ⌝ }
-    ensures { λ r. ⌜ now (residual .exit) ≡ residualAfter (judgedOf khz (now (frame .entry)) (length (now (spectrum .entry))) (length (now (residual .entry)))) (now (residual .entry)) ⌝ }
+    ensures { λ r. ⌜
+        Answers (told r) (judgedOf khz (now (frame .entry)) (length (now (spectrum .entry))) (length (now (residual .entry))))
+        (now (spectrum .entry)) (now (spectrum .exit)) (now (residual .entry)) (now (residual .exit))
+        ⌝ }
     ensures { λ r. ⌜ Bounded (r .answer) (now (spectrum .exit)) ⌝ }
 {
     let known = frame_settings::rate_setting(khz);
@@ -43,10 +44,12 @@ pub fn read(khz: u32, frame: &[u8], spectrum: &mut [i32], residual: &mut [u8]) -
 
 // The two lent buffers, then the side information.
 fn read_sized(r: Setting, frame: &[u8], spectrum: &mut [i32], residual: &mut [u8]) -> Reading
-    requires { ⌜ Known r × Sized (now frame) ⌝ }
-    ensures { λ o. ⌜ told o ≡ givenOf (judgedSized r (now (frame .entry)) (length (now (spectrum .entry))) (length (now (residual .entry)))) ⌝ }
-    ensures { λ o. ⌜ now (spectrum .exit) ≡ spectrumOf (judgedSized r (now (frame .entry)) (length (now (spectrum .entry))) (length (now (residual .entry)))) (now (spectrum .entry)) ⌝ }
-    ensures { λ o. ⌜ now (residual .exit) ≡ residualAfter (judgedSized r (now (frame .entry)) (length (now (spectrum .entry))) (length (now (residual .entry)))) (now (residual .entry)) ⌝ }
+    requires { ⌜ Known r ⌝ }
+    requires { ⌜ Sized (now frame) ⌝ }
+    ensures { λ o. ⌜
+        Answers (told o) (judgedSized r (now (frame .entry)) (length (now (spectrum .entry))) (length (now (residual .entry))))
+        (now (spectrum .entry)) (now (spectrum .exit)) (now (residual .entry)) (now (residual .exit))
+        ⌝ }
     ensures { λ o. ⌜ Bounded (o .answer) (now (spectrum .exit)) ⌝ }
 {
     let lines = r.lines;
@@ -56,9 +59,8 @@ fn read_sized(r: Setting, frame: &[u8], spectrum: &mut [i32], residual: &mut [u8
     if residual.len() != lines {
         return refused(Answer::Length);
     }
-    let got = frame_side::read_side(frame, r);
-    let SideRead::Value(v, p) = got else {
-        return refused(Answer::BitError(frame_side::side_cause(got)));
-    };
-    read_arithmetic(r, v, p, frame, spectrum, residual)
+    match frame_side::read_side(frame, r) {
+        SideRead::Cause(k) => refused(Answer::BitError(k)),
+        SideRead::Value(v, p) => read_arithmetic(r, v, p, frame, spectrum, residual),
+    }
 }

@@ -12,11 +12,10 @@ use Rattle.coder_tables.proofs.Rules.{order-row, coefficient-row}
 use Rattle.frame_bits.specs.Read.{Read, value, cause}
 use Rattle.frame_settings.specs.Settings.{weighting}
 use Rattle.frame_coder.specs.Symbol.{startOf}
-use Rattle.frame_tns.specs.Tns.{Filter, filterOf, filterGiven, filterCause, unused}
-use Rattle.frame_spectral.specs.Spectral.{Spectral, spectralFrom, spectralGiven, spectralCause}
-use Rattle.frame_arithmetic.specs.Answers.{Whole}
-use Rattle.frame_arithmetic.specs.Answers.{arithmeticFrom}
-use Rattle.frame_arithmetic.specs.Answers.{Judged, refused, judgedRead, givenOf, spectrumOf, residualAfter, told}
+use Rattle.frame_tns.specs.Tns.{Filter, filterOf, filterGiven, unused}
+use Rattle.frame_spectral.specs.Spectral.{Spectral, spectralFrom, spectralGiven}
+use Rattle.frame_arithmetic.specs.Answers.{Whole, arithmeticFrom}
+use Rattle.frame_arithmetic.specs.Answers.{Judged, refused, judgedRead, givenOf, Answers, told}
 use Rattle.frame_pairs.specs.Sound.{Small}
 use Rattle.frame_tns.specs.Sound.{TnsTables, GoodFilter}
 use Rattle.frame_spectral.specs.Sound.{GoodSpectral}
@@ -46,7 +45,8 @@ unfoldable pub secondAt : List ℕ → Side → Coder → Read Coder Filter
 secondAt s v c = filterOf s orderTable coefficientTable (weighting (length s)) (v .flags .«tns_1») c
 
 pub first-at : (s : List ℕ) (v : Side) (c : Coder) (orders rows : List ℕ) (w : ℕ) (x : Read Coder Filter) → orders ≡ orderTable
-    → rows ≡ coefficientTable → w ≡ weighting (length s) → c ≡ startOf s → x ≡ filterOf s orders rows w (v .flags .«tns_0») c → firstAt s v ≡ x
+    → rows ≡ coefficientTable → w ≡ weighting (length s) → c ≡ startOf s → x ≡ filterOf s orders rows w (v .flags .«tns_0») c
+    → firstAt s v ≡ x
 unfolding firstAt
 first-at s v c orders rows w x e f l o q = sym (rw (e, f, l, o) at q)
 
@@ -80,72 +80,64 @@ pub start-taken : (s : List ℕ) (c : Coder) → c ≡ startOf s → c .taken �
 start-taken s c e = ap (λ (x : Coder). x .taken) e
 
 -- the three refusals: g is what was answered, k its cause
-filter-cause : (s : List ℕ) (c : Coder) (g : FilterRead) (j k : ℕ) → g ≡ filter.Cause j → k ≡ filterCause g → GoodFilter s c g
-    → (j ≡ k) × ((1 ≤ k) × (k ≤ 7))
-filter-cause s c g j k i q a =
-    let b : GoodFilter s c (filter.Cause j) = rw i at a in
-    let e : k ≡ j = q ∙ ap filterCause i in
-    let w = b .0 in
-    let z = b .1 in
-    (sym e, (omega arith, omega arith))
+filter-cause : (s : List ℕ) (c : Coder) (g : FilterRead) (k : ℕ) → g ≡ filter.Cause k → GoodFilter s c g → (1 ≤ k) × (k ≤ 7)
+filter-cause s c g k i a =
+    let b : GoodFilter s c (filter.Cause k) = rw i at a in
+    (omega (arith, b .0), omega (arith, b .1))
 
-pub first-refused : (s : List ℕ) (r : Setting) (v : Side) (p : ℕ) (c : Coder) (g : FilterRead) (l : List ℕ) (j k : ℕ) → firstAt s v ≡ filterGiven g l
-    → g ≡ filter.Cause j → k ≡ filterCause g → GoodFilter s c g → (arithmeticFrom s r v p ≡ cause k) × ((1 ≤ k) × (k ≤ 7))
-first-refused s r v p c g l j k f i q a =
-    let b = filter-cause s c g j k i q a in
-    (arithmetic-first s r v p k (f ∙ ap (λ (x : FilterRead). filterGiven x l) i ∙ ap cause (b .0)), b .1)
+pub first-refused :
+    (s : List ℕ) (r : Setting) (v : Side) (p : ℕ) (c : Coder) (g : FilterRead) (l : List ℕ) (k : ℕ) → firstAt s v ≡ filterGiven g l
+    → g ≡ filter.Cause k → GoodFilter s c g → (arithmeticFrom s r v p ≡ cause k) × ((1 ≤ k) × (k ≤ 7))
+first-refused s r v p c g l k f i a = (arithmetic-first s r v p k (rw i at f), filter-cause s c g k i a)
 
-pub second-refused : (s : List ℕ) (r : Setting) (v : Side) (p : ℕ) (o : Filter) (c : Coder) (g : FilterRead) (l : List ℕ) (j k : ℕ)
-    → firstAt s v ≡ value o c → secondAt s v c ≡ filterGiven g l → g ≡ filter.Cause j → k ≡ filterCause g → GoodFilter s c g
+pub second-refused :
+    (s : List ℕ) (r : Setting) (v : Side) (p : ℕ) (o : Filter) (c : Coder) (g : FilterRead) (l : List ℕ) (k : ℕ)
+    → firstAt s v ≡ value o c → secondAt s v c ≡ filterGiven g l → g ≡ filter.Cause k → GoodFilter s c g
     → (arithmeticFrom s r v p ≡ cause k) × ((1 ≤ k) × (k ≤ 7))
-second-refused s r v p o c g l j k h f i q a =
-    let b = filter-cause s c g j k i q a in
-    (arithmetic-second s r v p k o c h (f ∙ ap (λ (x : FilterRead). filterGiven x l) i ∙ ap cause (b .0)), b .1)
+second-refused s r v p o c g l k h f i a = (arithmetic-second s r v p k o c h (rw i at f), filter-cause s c g k i a)
 
-pub third-refused : (s : List ℕ) (r : Setting) (v : Side) (p : ℕ) (o u : Filter) (c d : Coder) (g : SpectralRead) (lines : List ℤ) (bits : List ℕ)
-    (j k last : ℕ) → firstAt s v ≡ value o c → secondAt s v c ≡ value u d → spectralGiven g lines bits ≡ spectralFrom s r (v .head) d p
-    → g ≡ spectralRead.Cause j → k ≡ spectralCause g → GoodSpectral last g lines → (arithmeticFrom s r v p ≡ cause k) × ((1 ≤ k) × (k ≤ 7))
-third-refused s r v p o u c d g lines bits j k last h w f i q a =
-    let b : GoodSpectral last (spectralRead.Cause j) lines = rw i at a in
-    let e : k ≡ j = q ∙ ap spectralCause i in
-    let y = b .0 in
-    let z = b .1 in
-    let t : spectralFrom s r (v .head) d p ≡ cause k = sym f ∙ ap (λ (x : SpectralRead). spectralGiven x lines bits) i ∙ ap cause (sym e) in
-    (arithmetic-third s r v p k o u c d h w t, (omega arith, omega arith))
+pub third-refused :
+    (s : List ℕ) (r : Setting) (v : Side) (p : ℕ) (o u : Filter) (c d : Coder) (g : SpectralRead) (lines : List ℤ) (bits : List ℕ)
+    (k last : ℕ) → firstAt s v ≡ value o c → secondAt s v c ≡ value u d → spectralGiven g lines bits ≡ spectralFrom s r (v .head) d p
+    → g ≡ spectralRead.Cause k → GoodSpectral last g lines → (arithmeticFrom s r v p ≡ cause k) × ((1 ≤ k) × (k ≤ 7))
+third-refused s r v p o u c d g lines bits k last h w f i a =
+    (arithmetic-third s r v p k o u c d h w (sym (rw i at f)), rw i at a)
 
 -- ---- the answer and both buffers, as a judgement j asks
 
-abbrev pub Answers : Reading → Judged → List ℤ → List ℤ → List ℕ → List ℕ → Type 0
-Answers o j spectrum spectrum′ residual residual′ =
-    (told o ≡ givenOf j) × ((spectrum′ ≡ spectrumOf j spectrum) × ((residual′ ≡ residualAfter j residual) × Bounded (o .answer) spectrum′))
+abbrev pub Answered : Reading → Judged → List ℤ → List ℤ → List ℕ → List ℕ → Type 0
+Answered o j spectrum spectrum′ residual residual′ =
+    Answers (told o) j spectrum spectrum′ residual residual′ × Bounded (o .answer) spectrum′
 
 -- the same by an equal judgement
 pub answers-by : (o : Reading) (i j : Judged) (spectrum spectrum′ : List ℤ) (residual residual′ : List ℕ) → i ≡ j
-    → Answers o j spectrum spectrum′ residual residual′ → Answers o i spectrum spectrum′ residual residual′
+    → Answered o j spectrum spectrum′ residual residual′ → Answered o i spectrum spectrum′ residual residual′
 answers-by o i j spectrum spectrum′ residual residual′ e a = rw e a
 
 pub answers-setting : (o : Reading) (j : Judged) (spectrum : List ℤ) (residual : List ℕ)
     → o ≡ record { answer = answer.Setting; «tns_coefficients_0» = unused; «tns_coefficients_1» = unused } → j ≡ refused 1 0
-    → Answers o j spectrum spectrum residual residual
+    → Answered o j spectrum spectrum residual residual
 unfolding givenOf
-answers-setting o j spectrum residual e f = rw (e, f) (refl, (refl, (refl, tt)))
+answers-setting o j spectrum residual e f = rw (e, f) (record { given = refl; lines = refl; bits = refl }, tt)
 
 pub answers-length : (o : Reading) (j : Judged) (spectrum : List ℤ) (residual : List ℕ)
     → o ≡ record { answer = answer.Length; «tns_coefficients_0» = unused; «tns_coefficients_1» = unused } → j ≡ refused 2 0
-    → Answers o j spectrum spectrum residual residual
+    → Answered o j spectrum spectrum residual residual
 unfolding givenOf
-answers-length o j spectrum residual e f = rw (e, f) (refl, (refl, (refl, tt)))
+answers-length o j spectrum residual e f = rw (e, f) (record { given = refl; lines = refl; bits = refl }, tt)
 
 pub answers-cause : (o : Reading) (x : Read ℕ Whole) (k : ℕ) (spectrum spectrum′ : List ℤ) (residual residual′ : List ℕ)
     → o ≡ record { answer = answer.BitError k; «tns_coefficients_0» = unused; «tns_coefficients_1» = unused } → x ≡ cause k
     → spectrum′ ≡ spectrum → residual′ ≡ residual → (1 ≤ k) × (k ≤ 7)
-    → Answers o (judgedRead x) spectrum spectrum′ residual residual′
+    → Answered o (judgedRead x) spectrum spectrum′ residual residual′
 unfolding givenOf
-answers-cause o x k spectrum spectrum′ residual residual′ e f a b h = rw (e, f, a, b) (refl, (refl, (refl, h)))
+answers-cause o x k spectrum spectrum′ residual residual′ e f a b h = rw (e, f, a, b)
+    (record { given = refl; lines = refl; bits = refl }, h)
 
 pub answers-value : (x : Read ℕ Whole) (v : Side) (f g : Filter) (y : Spectral) (q : ℕ) (spectrum : List ℤ) (residual : List ℕ)
-    → x ≡ value (record { side = v; first = f; second = g; spectral = y }) q → (y .symbols ≤ 18 + 7 * v .head .«last_line») × Small (y .lines)
-    → Answers
+    → x ≡ value (record { side = v; first = f; second = g; spectral = y }) q
+    → (y .symbols ≤ 18 + 7 * v .head .«last_line») × Small (y .lines)
+    → Answered
     (record {
       answer = answer.Read (record {
         side = v;
@@ -159,4 +151,4 @@ pub answers-value : (x : Read ℕ Whole) (v : Side) (f g : Filter) (y : Spectral
     })
     (judgedRead x) spectrum (y .lines) residual (y .residual .bits)
 unfolding givenOf
-answers-value x v f g y q spectrum residual e h = rw e (refl, (refl, (refl, h)))
+answers-value x v f g y q spectrum residual e h = rw e (record { given = refl; lines = refl; bits = refl }, h)

@@ -1,5 +1,6 @@
 -- The arithmetic stream (5.4.2.7) in the order of reading, what an accepted frame holds, and what the reader answers: document 01's number,
 -- the cause, and the values. Assumes nothing.
+use mathlib.Core.Path.{_≡_}
 use mathlib.Core.List.{List}
 use Prim.Native.Nat.{ℕ}
 use lib.ListN.{length}
@@ -89,6 +90,12 @@ spectrumOf (refused number why) lent = lent
 abbrev pub residualAfter : Judged → List ℕ → List ℕ
 residualAfter (accepted w) lent = w .spectral .residual .bits
 residualAfter (refused number why) lent = lent
+
+-- the answer g and both buffers afterwards are what judgement j asks for
+pub record Answers (g : Given) (j : Judged) (spectrum spectrum′ : List ℤ) (residual residual′ : List ℕ) : Type 0 where
+  pub given : g ≡ givenOf j
+  pub lines : spectrum′ ≡ spectrumOf j spectrum
+  pub bits : residual′ ≡ residualAfter j residual
 
 -- document 01's number, cause and values for each case of the answer
 abbrev pub answered : Answer → List ℕ → List ℕ → Given

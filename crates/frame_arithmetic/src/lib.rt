@@ -3,17 +3,16 @@
 // Inner: `frame` stands over it and hands its answer on to callers. It asks for a known setting, a frame of 20 to 400 bytes, its side
 // information as read, and buffers of its line count.
 ghost use mathlib.Core.Path.{_≡_};
-ghost use lib.ListN.{length};
 ghost use Rattle.frame_settings.specs.Settings.{Known, Sized};
 ghost use Rattle.frame_tns.specs.Tns.{unused};
-ghost use Rattle.frame_arithmetic.specs.Answers.{answered, judgedRead, arithmeticFrom, givenOf, spectrumOf, residualAfter, told};
+ghost use Rattle.frame_arithmetic.specs.Answers.{answered, judgedRead, arithmeticFrom, Answers, told};
 ghost use Rattle.frame_side.specs.Sound.{Sided};
+ghost use Rattle.frame_spectral.specs.Sound.{Buffers};
 ghost use Rattle.frame_arithmetic.specs.Sound.{Bounded};
 use frame_settings::Setting;
 use frame_side::Side;
 use frame_spectral::SpectralRead;
 use frame_spectral::read_spectral;
-use frame_spectral::spectral_cause;
 use frame_tns::FilterRead;
 
 // What an accepted frame says beside its TNS coefficients, spectrum and residual bits.
@@ -73,10 +72,14 @@ pub fn read_arithmetic(
     spectrum: &mut [i32],
     residual: &mut [u8],
 ) -> Reading
-    requires { ⌜ Known r × Sized (now frame) × Sided r v p × (length (now spectrum) ≡ r .lines) × (length (now residual) ≡ r .lines) ⌝ }
-    ensures { λ o. ⌜ told o ≡ givenOf (judgedRead (arithmeticFrom (now (frame .entry)) r v p)) ⌝ }
-    ensures { λ o. ⌜ now (spectrum .exit) ≡ spectrumOf (judgedRead (arithmeticFrom (now (frame .entry)) r v p)) (now (spectrum .entry)) ⌝ }
-    ensures { λ o. ⌜ now (residual .exit) ≡ residualAfter (judgedRead (arithmeticFrom (now (frame .entry)) r v p)) (now (residual .entry)) ⌝ }
+    requires { ⌜ Known r ⌝ }
+    requires { ⌜ Sized (now frame) ⌝ }
+    requires { ⌜ Sided r v p ⌝ }
+    requires { ⌜ Buffers r (now spectrum) (now residual) ⌝ }
+    ensures { λ o. ⌜
+        Answers (told o) (judgedRead (arithmeticFrom (now (frame .entry)) r v p))
+        (now (spectrum .entry)) (now (spectrum .exit)) (now (residual .entry)) (now (residual .exit))
+        ⌝ }
     ensures { λ o. ⌜ Bounded (o .answer) (now (spectrum .exit)) ⌝ }
 {
     let orders = coder_tables::tns_order();
@@ -86,27 +89,40 @@ pub fn read_arithmetic(
     let mut first = [0u8; 8];
     let mut second = [0u8; 8];
     let start = frame_coder::start(frame);
-    let got = frame_tns::filter(frame, &orders, &rows, w, f.tns_0, &mut first, start);
-    let FilterRead::Value(m, c) = got else {
-        return refused(Answer::BitError(frame_tns::filter_cause(got)));
-    };
-    let got2 = frame_tns::filter(frame, &orders, &rows, w, f.tns_1, &mut second, c);
-    let FilterRead::Value(n, d) = got2 else {
-        return refused(Answer::BitError(frame_tns::filter_cause(got2)));
-    };
-    let got3 = read_spectral(r, v.head, d, p, frame, spectrum, residual);
-    let SpectralRead::Value(symbols, count, _) = got3 else {
-        return refused(Answer::BitError(spectral_cause(got3)));
-    };
-    Reading {
-        answer: Answer::Read(Fields {
-            side: v,
-            tns_order_0: m,
-            tns_order_1: n,
-            residual_bits: count,
-            symbols,
-        }),
-        tns_coefficients_0: first,
-        tns_coefficients_1: second,
+    match frame_tns::filter(frame, &orders, &rows, w, f.tns_0, &mut first, start) {
+        FilterRead::Cause(k) => refused(Answer::BitError(k)),
+        FilterRead::Value(m, c) => match frame_tns::filter(
+            frame,
+            &orders,
+            &rows,
+            w,
+            f.tns_1,
+            &mut second,
+            c,
+        ) {
+            FilterRead::Cause(k) => refused(Answer::BitError(k)),
+            FilterRead::Value(n, d) => match read_spectral(
+                r,
+                v.head,
+                d,
+                p,
+                frame,
+                spectrum,
+                residual,
+            ) {
+                SpectralRead::Cause(k) => refused(Answer::BitError(k)),
+                SpectralRead::Value(symbols, count, _) => Reading {
+                    answer: Answer::Read(Fields {
+                        side: v,
+                        tns_order_0: m,
+                        tns_order_1: n,
+                        residual_bits: count,
+                        symbols,
+                    }),
+                    tns_coefficients_0: first,
+                    tns_coefficients_1: second,
+                },
+            },
+        },
     }
 }

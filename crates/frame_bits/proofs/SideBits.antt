@@ -1,18 +1,14 @@
--- Bits of the side stream: the value of n bits is below 2 ^ n, one more bit, and a field inside the frame or beyond it. Assumes nothing.
-use mathlib.Core.Path.{_≡_, refl, sym}
+-- Bits of the side stream: the value of n bits is below 2 ^ n, one more bit, and a field inside the frame. Assumes nothing.
+use mathlib.Core.Path.{_≡_, refl}
 use mathlib.Core.List.{List}
 use Prim.Native.Nat.{ℕ, zero, suc, _+_, _*_, _%_, _^_, _≤_, _<_}
 use native.Mathlib.Nat.{two-pow-succ, mul-le-mul-right, one-mul}
 use native.Mathlib.Omega.{arith}
 use lib.ListN.{length}
 use lib.Pow.{pow-mono, shl-exact}
-use borrow.Author.Tests.{lt-ltb, le-ltb, le-leb, lt-leb}
+use borrow.Author.Tests.{lt-ltb, le-ltb, le-leb}
 use Rattle.frame_bits.specs.Read.{value, cause}
-use Rattle.frame_bits.specs.Bits.{bitOf, bitsOf, readBit, readBits, bitsGiven}
-use Rattle.frame_settings.specs.Settings.{Sized}
-use Rattle.frame_bits.specs.Sound.{GoodBits}
-use Rattle.frame_bits.specs.declared.Bits.{Bits}
-use Rattle.frame_bits.specs.declared.Bits.the-variants as bits
+use Rattle.frame_bits.specs.Bits.{bitOf, bitsOf, readBit, readBits}
 
 -- one more bit on top
 pub one-more : (v b n : ℕ) → v < 2 ^ n → b < 2 → v + b * 2 ^ n < 2 ^ suc n
@@ -47,7 +43,9 @@ bits-room s p i v b e h k =
     let j : suc i ≤ 64 = omega arith in
     rw x (in-more (v + b * 2 ^ i) (suc i) 64 g j)
 
-pub bits-next : (s : List ℕ) (p i v b : ℕ) → v ≡ bitsOf s p i → b ≡ bitOf s (p + i) → b < 2 → i < 32 → v + b * 2 ^ i % 2 ^ 64 ≡ bitsOf s p (i + 1)
+pub bits-next :
+    (s : List ℕ) (p i v b : ℕ) → v ≡ bitsOf s p i → b ≡ bitOf s (p + i) → b < 2 → i < 32
+    → v + b * 2 ^ i % 2 ^ 64 ≡ bitsOf s p (i + 1)
 unfolding bitsOf
 bits-next s p i v b e d h k =
     let x : b * 2 ^ i % 2 ^ 64 ≡ b * 2 ^ i = shl-exact 1 i 64 h (omega arith) in
@@ -65,21 +63,3 @@ bit-outside s p h = simp (le-ltb p (8 * length s) h)
 pub field-inside : (s : List ℕ) (p n : ℕ) → p + n ≤ 8 * length s → readBits s p n ≡ value (bitsOf s p n) (p + n)
 unfolding readBits
 field-inside s p n h = simp (le-leb (p + n) (8 * length s) h)
-
-pub field-outside : (s : List ℕ) (p n : ℕ) → 8 * length s < p + n → readBits s p n ≡ cause 6
-unfolding readBits
-field-outside s p n h = simp (lt-leb (p + n) (8 * length s) h)
-
--- what is known of a field that was read: its value v, and q the cursor behind it
-pub record Field (s : List ℕ) (p n v q : ℕ) : Type 0 where
-  pub found : readBits s p n ≡ value v q
-  pub below : v < 2 ^ n
-  pub next : q ≡ p + n
-  pub inside : q ≤ 8 * length s
-
-pub field-of : (s : List ℕ) (p n v q : ℕ) (r : Bits) → bitsGiven r ≡ readBits s p n → GoodBits s p n r → r ≡ bits.Value v q → Field s p n v q
-field-of s p n v q r e g k = let h = rw k at g in record { found = sym (rw k at e); below = h .0; next = h .1; inside = h .2 }
-
--- the first 160 bits stand in every frame
-pub no-cause : (s : List ℕ) (p n k : ℕ) (r : Bits) → GoodBits s p n r → r ≡ bits.Cause k → Sized s → p + n ≤ 160 → ⊥
-no-cause s p n k r g e z h = let f = rw e at g in omega (arith, f .1, z .least)

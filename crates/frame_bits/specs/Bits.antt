@@ -6,8 +6,8 @@ use Prim.Native.Nat.{ℕ, zero, suc, _+_, _-_, _*_, _/_, _%_, _^_}
 use lib.Dec.{ltb, leb}
 use lib.ListN.{length, getD}
 use Rattle.frame_bits.specs.Read.{Read, value, cause}
-use Rattle.frame_bits.specs.declared.Bits.{Bits}
-use Rattle.frame_bits.specs.declared.Bits.the-variants as bits
+use Rattle.frame_bits.specs.declared.Bit.{Bit}
+use Rattle.frame_bits.specs.declared.Bit.the-variants as bit
 
 -- bit p of the side stream
 abbrev pub bitOf : List ℕ → ℕ → ℕ
@@ -26,10 +26,6 @@ readBit s p = cond (ltb p (8 * length s)) (value (bitOf s p) (p + 1)) (cause 6)
 unfoldable pub readBits : List ℕ → ℕ → ℕ → Read ℕ ℕ
 readBits s p n = cond (leb (p + n) (8 * length s)) (value (bitsOf s p n) (p + n)) (cause 6)
 
-abbrev pub bitsGiven : Bits → Read ℕ ℕ
-bitsGiven (bits.Value v p) = value v p
-bitsGiven (bits.Cause k) = cause k
-
-abbrev pub causeOf : Bits → ℕ
-causeOf (bits.Value v p) = 0
-causeOf (bits.Cause k) = k
+abbrev pub bitGiven : Bit → Read ℕ ℕ
+bitGiven (bit.Value v p) = value v p
+bitGiven bit.Outside = cause 6

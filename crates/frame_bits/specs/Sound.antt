@@ -4,15 +4,19 @@ use mathlib.Core.Path.{_≡_}
 use mathlib.Core.List.{List}
 use Prim.Native.Nat.{ℕ, _+_, _*_, _^_, _<_, _≤_}
 use lib.ListN.{length}
-use Rattle.frame_bits.specs.declared.Bits.{Bits}
-use Rattle.frame_bits.specs.declared.Bits.the-variants as bits
+use Rattle.frame_bits.specs.Read.{value}
+use Rattle.frame_bits.specs.Bits.{readBits}
+use Rattle.frame_bits.specs.declared.Field.{Field}
+use Rattle.frame_bits.specs.declared.Bit.{Bit}
+use Rattle.frame_bits.specs.declared.Bit.the-variants as bit
 
 -- one bit
-abbrev pub GoodBit : List ℕ → ℕ → Bits → Type 0
-GoodBit s p (bits.Value v q) = (v < 2) × (q ≡ p + 1) × (p < 8 * length s)
-GoodBit s p (bits.Cause k) = k ≡ 6
+abbrev pub GoodBit : List ℕ → ℕ → Bit → Type 0
+GoodBit s p (bit.Value v q) = (v < 2) × (q ≡ p + 1) × (p < 8 * length s)
+GoodBit s p bit.Outside = Unit {0}
 
--- a field of n bits: inside the frame, or its bits would leave it
-abbrev pub GoodBits : List ℕ → ℕ → ℕ → Bits → Type 0
-GoodBits s p n (bits.Value v q) = (v < 2 ^ n) × (q ≡ p + n) × (q ≤ 8 * length s)
-GoodBits s p n (bits.Cause k) = (k ≡ 6) × (8 * length s < p + n)
+-- a field of n bits inside the frame
+pub record GoodField (s : List ℕ) (p n : ℕ) (f : Field) : Type 0 where
+  pub found : readBits s p n ≡ value (f .value) (f .next)
+  pub below : f .value < 2 ^ n
+  pub next : f .next ≡ p + n

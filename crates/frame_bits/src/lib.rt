@@ -5,55 +5,56 @@ ghost use mathlib.Core.Path.{_≡_};
 ghost use Prim.Native.Nat.{_+_, _*_, _≤_, _<_};
 ghost use lib.ListN.{length};
 ghost use Rattle.frame_settings.specs.Settings.{Sized};
-ghost use Rattle.frame_bits.specs.Bits.{bitOf, bitsOf, readBit, readBits, bitsGiven};
-ghost use Rattle.frame_bits.specs.Sound.{GoodBit, GoodBits};
+ghost use Rattle.frame_bits.specs.Bits.{bitOf, readBit, bitGiven};
+ghost use Rattle.frame_bits.specs.Sound.{GoodBit, GoodField};
 
-// A field's value with the next cursor, or the cause of a bit error.
-pub enum Bits {
+// A bit with the next cursor; or it would stand outside the frame, which is cause 6.
+pub enum Bit {
     Value(usize, usize),
-    Cause(u8),
+    Outside,
+}
+
+// A field's value with the next cursor.
+pub struct Field {
+    pub value: usize,
+    pub next: usize,
 }
 
 pub fn wide(x: u8) -> usize
-    ensures { λ r. ⌜ (r ≡ x) × (r < 256) ⌝ }
+    ensures { λ r. ⌜ r ≡ x ⌝ }
+    ensures { λ r. ⌜ r < 256 ⌝ }
 {
     x as usize
-}
-
-pub fn cause_of(b: Bits) -> u8
-    ensures { λ r. ⌜ r ≡ Rattle.frame_bits.specs.Bits.causeOf b ⌝ }
-{
-    match b {
-        Bits::Cause(k) => k,
-        Bits::Value(_, _) => 0,
-    }
 }
 
 // Bit p of the side stream, which the caller knows to be inside the frame.
 pub fn bit_at(s: &[u8], p: usize) -> usize
     requires { ⌜ p < 8 * length (now s) ⌝ }
-    ensures { λ r. ⌜ (r ≡ bitOf (now (s .entry)) p) × (r < 2) ⌝ }
+    ensures { λ r. ⌜ r ≡ bitOf (now (s .entry)) p ⌝ }
+    ensures { λ r. ⌜ r < 2 ⌝ }
 {
     let at = s.len() - 1 - p / 8;
     (wide(s[at]) >> (p % 8)) % 2
 }
 
-pub fn read_bit(s: &[u8], p: usize) -> Bits
+pub fn read_bit(s: &[u8], p: usize) -> Bit
     requires { ⌜ Sized (now s) ⌝ }
-    ensures { λ r. ⌜ bitsGiven r ≡ readBit (now (s .entry)) p ⌝ }
+    ensures { λ r. ⌜ bitGiven r ≡ readBit (now (s .entry)) p ⌝ }
     ensures { λ r. ⌜ GoodBit (now (s .entry)) p r ⌝ }
 {
     if p < 8 * s.len() {
-        Bits::Value(bit_at(s, p), p + 1)
+        Bit::Value(bit_at(s, p), p + 1)
     } else {
-        Bits::Cause(6)
+        Bit::Outside
     }
 }
 
-// The number in n bits from p on.
-fn bits_at(s: &[u8], p: usize, n: usize) -> usize
-    requires { ⌜ (n ≤ 32) × (p + n ≤ 8 * length (now s)) × Sized (now s) ⌝ }
-    ensures { λ r. ⌜ r ≡ bitsOf (now (s .entry)) p n ⌝ }
+// The field of n bits from p on, which the caller knows to be inside the frame.
+pub fn read_bits(s: &[u8], p: usize, n: usize) -> Field
+    requires { ⌜ n ≤ 32 ⌝ }
+    requires { ⌜ p + n ≤ 8 * length (now s) ⌝ }
+    requires { ⌜ Sized (now s) ⌝ }
+    ensures { λ r. ⌜ GoodField (now (s .entry)) p n r ⌝ }
 {
     let mut v = 0;
     let mut i = 0;
@@ -61,17 +62,8 @@ fn bits_at(s: &[u8], p: usize, n: usize) -> usize
         v = v + (bit_at(s, p + i) << i);
         i = i + 1;
     }
-    v
-}
-
-pub fn read_bits(s: &[u8], p: usize, n: usize) -> Bits
-    requires { ⌜ (n ≤ 32) × (p ≤ 8 * length (now s)) × Sized (now s) ⌝ }
-    ensures { λ r. ⌜ bitsGiven r ≡ readBits (now (s .entry)) p n ⌝ }
-    ensures { λ r. ⌜ GoodBits (now (s .entry)) p n r ⌝ }
-{
-    if p + n <= 8 * s.len() {
-        Bits::Value(bits_at(s, p, n), p + n)
-    } else {
-        Bits::Cause(6)
+    Field {
+        value: v,
+        next: p + n,
     }
 }

@@ -21,7 +21,8 @@ use Rattle.frame_coder.specs.declared.Symbol.the-variants as symbol
 
 -- ---- the symbol found
 
-rises-on : {cum : List ℕ} {row last : ℕ} → Row cum row last → (v n w : ℕ) → v + n ≡ w → w ≤ last + 1 → getD cum (row + v) 0 ≤ getD cum (row + w) 0
+rises-on : {cum : List ℕ} {row last : ℕ} → Row cum row last → (v n w : ℕ) → v + n ≡ w → w ≤ last + 1
+    → getD cum (row + v) 0 ≤ getD cum (row + w) 0
 rises-on {cum} {row} r v zero w e h = let p : v ≡ w = omega arith in le-of-eq (ap (λ (k : ℕ). getD cum (row + k) 0) p)
 rises-on r v (suc n) w e h = let a = r .rises v (omega arith) in let b = rises-on r (v + 1) n w (omega arith) h in omega arith
 
@@ -32,7 +33,8 @@ first-scaled {cum} {row} r t =
     sym (ap (λ (k : ℕ). t * k) e ∙ mul-zero t)
 
 -- where low is not below the next entry, that is not the row's end
-pub not-last : {cum : List ℕ} {row last : ℕ} → Row cum row last → (t low v : ℕ) → v ≤ last → low < t * 1024 → t * getD cum (row + (v + 1)) 0 ≤ low → v < last
+pub not-last : {cum : List ℕ} {row last : ℕ} → Row cum row last → (t low v : ℕ) → v ≤ last → low < t * 1024
+    → t * getD cum (row + (v + 1)) 0 ≤ low → v < last
 not-last {cum} {row} {last} r t low v h k p = go (eqb v last) refl
   where
     go : (b : Bool) → eqb v last ≡ b → v < last
@@ -87,7 +89,8 @@ scaled-rise {cum} {row} {t} {low} {last} {f} r k =
     let p : a ≤ b = omega arith in
     rw (k .below, k .above) (mul-le-mul-left t p)
 
-pub narrow : {s cum : List ℕ} {row last low : ℕ} {c : Coder} (f : Found) → Row cum row last → Sound s c → Scaled cum row (c .range / 1024) low last f
+pub narrow : {s cum : List ℕ} {row last low : ℕ} {c : Coder} (f : Found) → Row cum row last → Sound s c
+    → Scaled cum row (c .range / 1024) low last f
     → Narrow s (record { low = c .low - f .below; range = f .above - f .below; at = c .at; taken = c .taken + 1 })
 narrow {s} {cum} {row} {last} {low} {c} f r g k =
     let t : ℕ = c .range / 1024 in
@@ -100,7 +103,7 @@ narrow {s} {cum} {row} {last} {low} {c} f r g k =
     let e : f .above - f .below ≡ t * (b - a) = rw (k .below, k .above) (sym (mul-sub t b a)) in
     let some : 64 ≤ t * (b - a) = cut-some t a b (omega arith) (r .rises (f .symbol) h) in
     let most : t * (b - a) ≤ c .range = cut-most t a b (c .range) (omega arith) (row-below r (omega arith)) in
-    record { low = omega arith; some = omega arith; range = omega arith; at = g .at; end = g .end }
+    record { low = omega arith; wide = omega arith; range = omega arith; at = g .at; end = g .end }
 
 -- ---- each way through the refill: the range wide again, no byte left, a byte more
 
@@ -144,6 +147,7 @@ symbol-taken s cum row last low f c h e k =
     rw (lt-leb (t * 1024) (c .low) h, ← e, d, ← k .below, ← k .above)
 
 -- what the refill promises is what a symbol has to
-pub good-symbol : (s : List ℕ) (last v : ℕ) (c d : Coder) (r : Symbol) → v ≤ last → d .taken ≡ c .taken + 1 → Refilled s v d r → GoodSymbol s last c r
+pub good-symbol : (s : List ℕ) (last v : ℕ) (c d : Coder) (r : Symbol) → v ≤ last → d .taken ≡ c .taken + 1 → Refilled s v d r
+    → GoodSymbol s last c r
 good-symbol s last v c d (symbol.Value w e) h t g = let p = g .0 in (omega arith, g .1 ∙ t, g .2)
 good-symbol s last v c d (symbol.Cause k) h t g = (omega arith, omega arith)

@@ -24,7 +24,8 @@ abbrev pub fedOf : List ℕ → Coder → Coder
 fedOf s c =
     record { low = c .low * 256 % 16777216 + getD s (c .at) 0; range = c .range * 256; at = c .at + 1; taken = c .taken }
 
--- a byte is taken while the range is below 2^16; "a byte outside the frame is wanted" is cause 6. Two are enough: a range is at least 2^6 here
+-- a byte is taken while the range is below 2^16; "a byte outside the frame is wanted" is cause 6. Two are enough: a range is at least 2^6
+-- here
 unfoldable pub refillOf : List ℕ → ℕ → ℕ → Coder → Read Coder ℕ
 refillOf s zero v c = value v c
 refillOf s (suc n) v c =
@@ -33,7 +34,12 @@ refillOf s (suc n) v c =
 -- the stream behind symbol v, before bytes are taken: t scales the row, and one symbol more counts
 abbrev pub narrowed : List ℕ → ℕ → ℕ → ℕ → Coder → Coder
 narrowed cum row t v c =
-    record { low = c .low - t * getD cum (row + v) 0; range = t * (getD cum (row + (v + 1)) 0 - getD cum (row + v) 0); at = c .at; taken = c .taken + 1 }
+    record {
+      low = c .low - t * getD cum (row + v) 0;
+      range = t * (getD cum (row + (v + 1)) 0 - getD cum (row + v) 0);
+      at = c .at;
+      taken = c .taken + 1;
+    }
 
 unfoldable pub takenOf : List ℕ → List ℕ → ℕ → ℕ → ℕ → Coder → Read Coder ℕ
 takenOf s cum row t v c = refillOf s 2 v (narrowed cum row t v c)
@@ -47,7 +53,3 @@ symbolOf s cum row last c =
 abbrev pub symbolGiven : Symbol → Read Coder ℕ
 symbolGiven (symbol.Value v c) = value v c
 symbolGiven (symbol.Cause k) = cause k
-
-abbrev pub symbolCause : Symbol → ℕ
-symbolCause (symbol.Value v c) = 0
-symbolCause (symbol.Cause k) = k

@@ -4,10 +4,9 @@
 // to 1,024, and for a cursor that it gave itself (`Sound`).
 ghost use mathlib.Core.Path.{_≡_};
 ghost use Prim.Native.Nat.{_+_, _*_, _≤_, _<_};
-ghost use Rattle.coder_tables.specs.Rows.{Row};
 ghost use Rattle.frame_settings.specs.Settings.{Sized};
-ghost use Rattle.frame_coder.specs.Symbol.{startOf, largest, refillOf, symbolOf, symbolGiven, symbolCause};
-ghost use Rattle.frame_coder.specs.Sound.{Sound, Scaled, Narrow, Refilled, GoodSymbol};
+ghost use Rattle.frame_coder.specs.Symbol.{startOf, largest, refillOf, symbolOf, symbolGiven};
+ghost use Rattle.frame_coder.specs.Sound.{Sound, Ready, SymbolRow, Scaled, Narrow, Refilled, GoodSymbol};
 use frame_bits::wide;
 
 // The clause's low and range; `at` is its bp, and `taken` the number of symbols taken whole.
@@ -24,17 +23,9 @@ pub enum Symbol {
     Cause(u8),
 }
 
-pub fn symbol_cause(r: Symbol) -> u8
-    ensures { λ k. ⌜ k ≡ symbolCause r ⌝ }
-{
-    match r {
-        Symbol::Cause(k) => k,
-        Symbol::Value(_, _) => 0,
-    }
-}
-
 fn entry(x: u16) -> usize
-    ensures { λ r. ⌜ (r ≡ x) × (r < 65536) ⌝ }
+    ensures { λ r. ⌜ r ≡ x ⌝ }
+    ensures { λ r. ⌜ r < 65536 ⌝ }
 {
     x as usize
 }
@@ -61,7 +52,9 @@ struct Found {
 
 // The largest symbol whose cumulative frequency, scaled by t, is not above low. The end of the row is above it, so the search ends there.
 fn find(cum: &[u16], row: usize, t: usize, low: usize, last: usize) -> Found
-    requires { ⌜ Row (now cum) row last × (row < 65536) × (last ≤ 16) × (t < 16384) × (low < t * 1024) ⌝ }
+    requires { ⌜ SymbolRow (now cum) row last ⌝ }
+    requires { ⌜ t < 16384 ⌝ }
+    requires { ⌜ low < t * 1024 ⌝ }
     ensures { λ r. ⌜ r .symbol ≡ largest (now (cum .entry)) row t low last ⌝ }
     ensures { λ r. ⌜ Scaled (now (cum .entry)) row t low last r ⌝ }
 {
@@ -82,7 +75,8 @@ fn find(cum: &[u16], row: usize, t: usize, low: usize, last: usize) -> Found
 
 // Bytes are taken until the range is wide again.
 fn refill(s: &[u8], v: usize, c: Coder) -> Symbol
-    requires { ⌜ Sized (now s) × Narrow (now s) c ⌝ }
+    requires { ⌜ Sized (now s) ⌝ }
+    requires { ⌜ Narrow (now s) c ⌝ }
     ensures { λ r. ⌜ symbolGiven r ≡ refillOf (now (s .entry)) 2 v c ⌝ }
     ensures { λ r. ⌜ Refilled (now (s .entry)) v c r ⌝ }
 {
@@ -124,7 +118,8 @@ fn refill(s: &[u8], v: usize, c: Coder) -> Symbol
 
 // A symbol 0 .. last of the row that starts at entry `row`.
 pub fn decode(s: &[u8], cum: &[u16], row: usize, last: usize, c: Coder) -> Symbol
-    requires { ⌜ Sized (now s) × Row (now cum) row last × (row < 65536) × (last ≤ 16) × Sound (now s) c × (c .taken < 65536) ⌝ }
+    requires { ⌜ Ready (now s) c 65536 ⌝ }
+    requires { ⌜ SymbolRow (now cum) row last ⌝ }
     ensures { λ r. ⌜ symbolGiven r ≡ symbolOf (now (s .entry)) (now (cum .entry)) row last c ⌝ }
     ensures { λ r. ⌜ GoodSymbol (now (s .entry)) last c r ⌝ }
 {

@@ -20,8 +20,8 @@ use Rattle.frame_coder.specs.Symbol.{symbolOf}
 use Rattle.frame_pair.specs.Pair.{capped, rowOf, planeOf, lastOf, signOf, contextOf, signedOf, pairOf}
 use Rattle.frame_pair.specs.Sound.{Built, Room, GoodSign}
 use Rattle.frame_bits.specs.Sound.{GoodBit}
-use Rattle.frame_bits.specs.declared.Bits.{Bits}
-use Rattle.frame_bits.specs.declared.Bits.the-variants as bits
+use Rattle.frame_bits.specs.declared.Bit.{Bit}
+use Rattle.frame_bits.specs.declared.Bit.the-variants as bit
 use Rattle.frame_coder.specs.declared.Coder.{Coder}
 use Rattle.frame_pair.specs.declared.Last.{Last}
 
@@ -43,7 +43,8 @@ above-small x a level u h l =
 power-next : (level : ℕ) → 2 ^ (level + 1) ≡ 2 ^ level + 2 ^ level
 power-next level = ap (λ (k : ℕ). 2 ^ k) (add-one level) ∙ two-pow-succ level
 
-grown-by : (lsb level x a : ℕ) → Built lsb level x → a < 2 → lsb ≤ level → (t : Bool) → leb 1 level ≡ t → x + a * 2 ^ level + 1 + lsb ≤ 2 ^ (level + 1)
+grown-by : (lsb level x a : ℕ) → Built lsb level x → a < 2 → lsb ≤ level → (t : Bool) → leb 1 level ≡ t
+    → x + a * 2 ^ level + 1 + lsb ≤ 2 ^ (level + 1)
 grown-by lsb level x a b h k true e =
     let p = power-next level in
     let m : a * 2 ^ level ≤ 1 * 2 ^ level = mul-le-mul-right (2 ^ level) (omega arith) in
@@ -184,9 +185,9 @@ pub sign-some : (s : List ℕ) (m p : ℕ) → (m ≡ 0 → ⊥) → signOf s m 
 unfolding signOf
 sign-some s m p e = rw (ne-eqb m 0 e)
 
-pub sign-good : (s : List ℕ) (p : ℕ) (r : Bits) → GoodBit s p r → GoodSign r
-sign-good s p (bits.Value v q) g = g .0
-sign-good s p (bits.Cause k) g = g
+pub sign-good : (s : List ℕ) (p : ℕ) (r : Bit) → GoodBit s p r → GoodSign r
+sign-good s p (bit.Value v q) g = g .0
+sign-good s p bit.Outside g = g
 
 -- ---- the pair behind its last symbol
 

@@ -85,7 +85,7 @@ pairOf s look cum lsb base context c p =
 
 abbrev pub planeGiven : Plane → Read ℕ Values
 planeGiven (plane.Value x y p) = value (record { x = x; y = y }) p
-planeGiven (plane.Cause k) = cause k
+planeGiven plane.Outside = cause 6
 
 abbrev pub lastGiven : LastRead → Read Streams Last
 lastGiven (lastRead.Value l c p) = value l (record { coder = c; side = p })
@@ -94,15 +94,3 @@ lastGiven (lastRead.Cause k) = cause k
 abbrev pub pairGiven : PairRead → Read Streams Pair
 pairGiven (pairRead.Value q c p) = value q (record { coder = c; side = p })
 pairGiven (pairRead.Cause k) = cause k
-
-abbrev pub planeCause : Plane → ℕ
-planeCause (plane.Value x y p) = 0
-planeCause (plane.Cause k) = k
-
-abbrev pub lastCause : LastRead → ℕ
-lastCause (lastRead.Value l c p) = 0
-lastCause (lastRead.Cause k) = k
-
-abbrev pub pairCause : PairRead → ℕ
-pairCause (pairRead.Value q c p) = 0
-pairCause (pairRead.Cause k) = k

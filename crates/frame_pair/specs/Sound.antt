@@ -4,8 +4,10 @@ use mathlib.Core.Path.{_≡_}
 use mathlib.Core.List.{List}
 use Prim.Native.Nat.{ℕ, _+_, _*_, _^_, _<_, _≤_}
 use lib.ListN.{length}
-use Rattle.frame_bits.specs.declared.Bits.{Bits}
-use Rattle.frame_bits.specs.declared.Bits.the-variants as bits
+use Rattle.coder_tables.specs.Layout.{byLevel}
+use Rattle.coder_tables.specs.Rows.{SpectrumTables}
+use Rattle.frame_bits.specs.declared.Bit.{Bit}
+use Rattle.frame_bits.specs.declared.Bit.the-variants as bit
 use Rattle.frame_coder.specs.declared.Coder.{Coder}
 use Rattle.frame_pair.specs.declared.Plane.{Plane}
 use Rattle.frame_pair.specs.declared.Plane.the-variants as plane
@@ -15,17 +17,29 @@ use Rattle.frame_pair.specs.declared.PairRead.{PairRead}
 use Rattle.frame_pair.specs.declared.PairRead.the-variants as pairRead
 use Rattle.frame_coder.specs.Sound.{Sound}
 
-abbrev pub GoodSign : Bits → Type 0
-GoodSign (bits.Value v q) = v < 2
-GoodSign (bits.Cause k) = k ≡ 6
+-- what a pair is read with: the lookups context after context, and the rows that they name
+pub record PairTables (look cum : List ℕ) : Type 0 where
+  pub looks : length look ≡ 4096
+  pub rows : SpectrumTables (byLevel look) cum
+
+abbrev pub GoodSign : Bit → Type 0
+GoodSign (bit.Value v q) = v < 2
+GoodSign bit.Outside = Unit {0}
 
 -- a value that `level` escapes have built: in LSB mode 1 its lowest bit is still to come
 abbrev pub Built : ℕ → ℕ → ℕ → Type 0
 Built lsb level x = (x < 2 ^ level) × (1 ≤ level → x + 1 + lsb ≤ 2 ^ level)
 
+-- the values of a pair behind `level` escapes
+pub record Escaped (lsb level x y : ℕ) : Type 0 where
+  pub mode : lsb < 2
+  pub few : level ≤ 13
+  pub first : Built lsb level x
+  pub second : Built lsb level y
+
 abbrev pub GoodPlane : ℕ → ℕ → Plane → Type 0
 GoodPlane lsb level (plane.Value x y p) = Built lsb (level + 1) x × Built lsb (level + 1) y
-GoodPlane lsb level (plane.Cause k) = k ≡ 6
+GoodPlane lsb level plane.Outside = Unit {0}
 
 abbrev pub GoodLast : List ℕ → ℕ → Coder → LastRead → Type 0
 GoodLast s lsb c (lastRead.Value l d p) =

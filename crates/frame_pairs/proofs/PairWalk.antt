@@ -90,7 +90,8 @@ module _ (lsb : ℕ) (lines : List ℤ) (levels : List ℕ) (k : ℕ) (q : Pair)
 
   first-line : getD (storeOf lines k q) (2 * k) (pos 0) ≡ lineOf (q .x) (q .xsign)
   first-line =
-      getD-set-other (set lines (2 * k) (lineOf (q .x) (q .xsign))) (2 * k + 1) (2 * k) (lineOf (q .y) (q .ysign)) (pos 0) (λ e. omega arith)
+      getD-set-other (set lines (2 * k) (lineOf (q .x) (q .xsign))) (2 * k + 1) (2 * k) (lineOf (q .y) (q .ysign)) (pos 0)
+      (λ e. omega arith)
       ∙ getD-set-same lines (2 * k) (lineOf (q .x) (q .xsign)) (pos 0) (omega arith)
 
   second-line : getD (storeOf lines k q) (2 * k + 1) (pos 0) ≡ lineOf (q .y) (q .ysign)
@@ -116,7 +117,8 @@ module _ (lsb : ℕ) (lines : List ℤ) (levels : List ℕ) (k : ℕ) (q : Pair)
   roomy-by i false false e f =
       let n = eqb-false i (2 * k) e in
       let m = eqb-false i (2 * k + 1) f in
-      room-of lsb (getD levels (i / 2) 0) (getD lines i (pos 0)) (getD (set levels k (q .level)) (i / 2) 0) (getD (storeOf lines k q) i (pos 0))
+      room-of lsb (getD levels (i / 2) 0) (getD lines i (pos 0)) (getD (set levels k (q .level)) (i / 2) 0)
+      (getD (storeOf lines k q) i (pos 0))
       (getD-set-other levels k (i / 2) (q .level) 0 (λ w. absurd (not-half i k n m w))) (other-line i n m) (old i)
 
   pub roomy-store : (after : List ℤ) → after ≡ storeOf lines k q → Roomy lsb after (set levels k (q .level))

@@ -30,6 +30,9 @@ pub record Spectrum : Type 0 where
   pub lines : List ℤ
   pub levels : List ℕ
 
+abbrev pub spectrumGiven : List ℤ → List ℕ → Spectrum
+spectrumGiven lines levels = record { lines = lines; levels = levels }
+
 -- n pairs from pair k on; o has the offset of the rate, NE / 2 and the LSB mode
 unfoldable pub pairsOf : List ℕ → List ℕ → List ℕ → PairSetting → ℕ → ℕ → ℕ → Coder → ℕ → List ℤ → List ℕ → Read Streams Spectrum
 pairsOf s look cum o zero k context c p lines levels =
@@ -40,9 +43,5 @@ pairsOf s look cum o (suc n) k context c p lines levels =
 
 -- the answer, with the lines and levels in the lists lent
 abbrev pub pairsGiven : PairsRead → List ℤ → List ℕ → Read Streams Spectrum
-pairsGiven (pairsRead.Value c p) lines levels = value (record { lines = lines; levels = levels }) (record { coder = c; side = p })
+pairsGiven (pairsRead.Value c p) lines levels = value (spectrumGiven lines levels) (record { coder = c; side = p })
 pairsGiven (pairsRead.Cause k) lines levels = cause k
-
-abbrev pub pairsCause : PairsRead → ℕ
-pairsCause (pairsRead.Value c p) = 0
-pairsCause (pairsRead.Cause k) = k

@@ -5,15 +5,11 @@ ghost use mathlib.Core.Path.{_≡_};
 ghost use Prim.Native.Nat.{_+_, _*_, _≤_, _<_};
 ghost use lib.ListN.{length};
 ghost use Rattle.coder_tables.specs.Layout.{byLevel};
-ghost use Rattle.coder_tables.specs.Rows.{SpectrumTables};
-ghost use Rattle.frame_settings.specs.Settings.{Sized};
-ghost use Rattle.frame_pairs.specs.Pairs.{baseOf, lineOf, storeOf, pairsOf, pairsGiven, pairsCause};
-ghost use Rattle.frame_coder.specs.Sound.{Sound};
-ghost use Rattle.frame_pairs.specs.Sound.{GoodPairs, Roomy};
+ghost use Rattle.frame_pairs.specs.Pairs.{baseOf, lineOf, storeOf, pairsOf, pairsGiven};
+ghost use Rattle.frame_pairs.specs.Sound.{PairsFrom, Working, GoodPairs};
 use frame_coder::Coder;
 use frame_pair::Pair;
 use frame_pair::PairRead;
-use frame_pair::pair_cause;
 use frame_pair::read_pair;
 
 // What all pairs are read with: the LSB mode, the offset of the rate, and NE / 2.
@@ -29,18 +25,11 @@ pub enum PairsRead {
     Cause(u8),
 }
 
-pub fn pairs_cause(r: PairsRead) -> u8
-    ensures { λ k. ⌜ k ≡ pairsCause r ⌝ }
-{
-    match r {
-        PairsRead::Cause(k) => k,
-        PairsRead::Value(_, _) => 0,
-    }
-}
-
 fn base_of(context: usize, offset: usize, half: usize, k: usize) -> usize
-    requires { ⌜ (context < 256) × (offset ≤ 512) ⌝ }
-    ensures { λ r. ⌜ (r ≡ baseOf context offset half k) × (r < 1024) ⌝ }
+    requires { ⌜ context < 256 ⌝ }
+    requires { ⌜ offset ≤ 512 ⌝ }
+    ensures { λ r. ⌜ r ≡ baseOf context offset half k ⌝ }
+    ensures { λ r. ⌜ r < 1024 ⌝ }
 {
     if half < k {
         context + offset + 256
@@ -62,7 +51,10 @@ fn line(m: usize, sign: usize) -> i32
 
 // The two lines of pair k.
 fn store(lines: &mut [i32], k: usize, q: Pair)
-    requires { ⌜ (length (now lines) ≡ 400) × (k < 200) × (q .x ≤ 32767) × (q .y ≤ 32767) ⌝ }
+    requires { ⌜ length (now lines) ≡ 400 ⌝ }
+    requires { ⌜ k < 200 ⌝ }
+    requires { ⌜ q .x ≤ 32767 ⌝ }
+    requires { ⌜ q .y ≤ 32767 ⌝ }
     ensures { λ _. ⌜ now (lines .exit) ≡ storeOf (now (lines .entry)) k q ⌝ }
 {
     lines[2 * k] = line(q.x, q.xsign);
@@ -81,8 +73,13 @@ pub fn read_pairs(
     lines: &mut [i32],
     levels: &mut [u8],
 ) -> PairsRead
-    requires { ⌜ Sized (now s) × SpectrumTables (byLevel (now look)) (now cum) × (o .lsb < 2) × (o .offset ≤ 512) × (n ≤ 200) × Sound (now s) first × (first .taken ≤ 18) × (start ≤ 8 * length (now s)) × (length (now lines) ≡ 400) × (length (now levels) ≡ 200) × Roomy (o .lsb) (now lines) (now levels) × (length (now look) ≡ 4096) ⌝ }
-    ensures { λ r. ⌜ pairsGiven r (now (lines .exit)) (now (levels .exit)) ≡ pairsOf (now (s .entry)) (byLevel (now (look .entry))) (now (cum .entry)) o n 0 0 first start (now (lines .entry)) (now (levels .entry)) ⌝ }
+    requires { ⌜ PairsFrom (now s) (now look) (now cum) o n first start ⌝ }
+    requires { ⌜ Working (o .lsb) (now lines) (now levels) ⌝ }
+    ensures { λ r. ⌜
+        pairsGiven r (now (lines .exit)) (now (levels .exit))
+        ≡ pairsOf (now (s .entry)) (byLevel (now (look .entry))) (now (cum .entry)) o n 0 0 first start
+        (now (lines .entry)) (now (levels .entry))
+        ⌝ }
     ensures { λ r. ⌜ GoodPairs (now (s .entry)) (o .lsb) n first r (now (lines .exit)) (now (levels .exit)) ⌝ }
 {
     let lsb = o.lsb;
@@ -92,16 +89,17 @@ pub fn read_pairs(
     let mut k = 0;
     while k < n {
         let base = base_of(context, o.offset, o.half, 2 * k);
-        let got = read_pair(s, look, cum, lsb, base, context, c, p);
-        let PairRead::Value(q, next, end) = got else {
-            return PairsRead::Cause(pair_cause(got));
-        };
-        store(lines, k, q);
-        levels[k] = q.level as u8;
-        context = q.context;
-        c = next;
-        p = end;
-        k = k + 1;
+        match read_pair(s, look, cum, lsb, base, context, c, p) {
+            PairRead::Cause(why) => return PairsRead::Cause(why),
+            PairRead::Value(q, next, end) => {
+                store(lines, k, q);
+                levels[k] = q.level as u8;
+                context = q.context;
+                c = next;
+                p = end;
+                k = k + 1;
+            }
+        }
     }
     PairsRead::Value(c, p)
 }

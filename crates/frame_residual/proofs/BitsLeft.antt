@@ -69,7 +69,8 @@ pub residual-more : (s : List ℕ) (lines : List ℤ) (p left n k count b : ℕ)
     → isZero (getD lines k (pos 0)) ≡ false → count < left → b ≡ bitOf s (p + count)
     → residualOf s lines p left (n - (k + 1)) (k + 1) (count + 1) (set bits count b) ≡ residualOf s lines p left (n - k) k count bits
 unfolding residualOf
-residual-more s lines p left n k count b bits h z l q = go (n - k) (n - (k + 1)) (k + 1) (count + 1) (omega arith) (omega arith) (omega arith)
+residual-more s lines p left n k count b bits h z l q = go (n - k) (n - (k + 1)) (k + 1) (count + 1) (omega arith) (omega arith)
+    (omega arith)
   where
     go : (a m j i : ℕ) → a ≡ suc m → j ≡ suc k → i ≡ suc count
         → residualOf s lines p left m j i (set bits count b) ≡ residualOf s lines p left a k count bits

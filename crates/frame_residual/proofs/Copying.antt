@@ -53,7 +53,8 @@ sent-zero s lsb n p left lines levels bits k r z e b q =
     let c : sentBits s lsb n x p left ≡ residualOf s lines p left n 0 0 (replicate n 0) = rw (eq-eqb lsb 0 z) in
     q ∙ ap (λ (i : ℕ). residualOf s lines p left i 0 0 bits) m ∙ ap (residualOf s lines p left n 0 0) w ∙ sym c
 
-pub sent-one : (s : List ℕ) (lsb n p left : ℕ) (lines : List ℤ) (levels bits : List ℕ) (k : ℕ) → (lsb ≡ 0 → ⊥) → k ≡ n → bits ≡ replicate k 0
+pub sent-one : (s : List ℕ) (lsb n p left : ℕ) (lines : List ℤ) (levels bits : List ℕ) (k : ℕ) → (lsb ≡ 0 → ⊥) → k ≡ n
+    → bits ≡ replicate k 0
     → _≡_ {A = Residual} (record { number = 0; bits = bits }) (sentBits s lsb n (record { lines = lines; levels = levels }) p left)
 sent-one s lsb n p left lines levels bits k z e b = rw (ne-eqb lsb 0 z, b, e)
 

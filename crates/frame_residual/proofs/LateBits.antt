@@ -181,7 +181,8 @@ step k levels lines v h z b r = record { small = λ i. small-at i (eqb i k) refl
         rw (e, getD-set-same lines k v (pos 0) h) (omega arith)
     small-at i false t = rw (getD-set-other lines k i v (pos 0) (eqb-false i k t)) (r .small i)
 
-    room-at : (i : ℕ) (t : Bool) → eqb i k ≡ t → k + 1 ≤ i → (getD levels (i / 2) 0 ≡ 0 → ⊥) → natAbs (getD (set lines k v) i (pos 0)) + 1 ≤ 32767
+    room-at : (i : ℕ) (t : Bool) → eqb i k ≡ t → k + 1 ≤ i → (getD levels (i / 2) 0 ≡ 0 → ⊥)
+        → natAbs (getD (set lines k v) i (pos 0)) + 1 ≤ 32767
     room-at i true t l y = let e : i ≡ k = eqb-true i k t in absurd (omega arith)
     room-at i false t l y = rw (getD-set-other lines k i v (pos 0) (eqb-false i k t)) (r .room i (omega arith) y)
 

@@ -42,6 +42,9 @@ pub record Residual : Type 0 where
   pub number : ℕ
   pub bits : List ℕ
 
+abbrev pub residualGiven : ℕ → List ℕ → Residual
+residualGiven number bits = record { number = number; bits = bits }
+
 -- LSB mode 0: "one per non-zero line until the remaining bits run out, packed from the first entry in line order"; n lines from line k on
 unfoldable pub residualOf : List ℕ → List ℤ → ℕ → ℕ → ℕ → ℕ → ℕ → List ℕ → Residual
 residualOf s lines p left zero k count bits = record { number = count; bits = bits }
@@ -85,10 +88,6 @@ latesOf s levels zero k lines p left = lines
 latesOf s levels (suc n) k lines p left =
     cond (eqb (getD levels (k / 2) 0) 0) (latesOf s levels n (suc k) lines p left)
     (afterLate (lateOf s (getD lines k (pos 0)) p left) lines (λ v p m. latesOf s levels n (suc k) (set lines k v) p m))
-
-abbrev pub leftCause : Left → ℕ
-leftCause (left.Value n) = 0
-leftCause (left.Cause k) = k
 
 -- 5.4.2.8: in LSB mode 1 the late low bits go into the lines
 abbrev pub finishedOf : List ℕ → ℕ → ℕ → Spectrum → ℕ → ℕ → List ℤ

@@ -6,11 +6,11 @@ ghost use mathlib.Core.Path.{_≡_};
 ghost use Prim.Native.Nat.{_+_, _*_, _≤_, _<_, _/_};
 ghost use lib.ListN.{length, take, replicate};
 ghost use lib.IntN.{natAbs};
-ghost use Rattle.frame_settings.specs.Settings.{Sized};
-ghost use Rattle.frame_residual.specs.Residual.{Residual, log2Of, leftOf, leftGiven, leftCause, residualOf, away, bornOf, lateOf, lateGiven, latesOf};
-ghost use Rattle.frame_residual.specs.Residual.{finishedOf, sentBits};
-ghost use Rattle.frame_residual.specs.Sound.{GoodLeft, GoodLate};
-ghost use Rattle.frame_pairs.specs.Sound.{Roomy, Small};
+ghost use Rattle.frame_residual.specs.Residual.{log2Of, leftOf, leftGiven, residualOf, residualGiven, away};
+ghost use Rattle.frame_residual.specs.Residual.{bornOf, lateOf, lateGiven, latesOf, finishedOf, sentBits};
+ghost use Rattle.frame_residual.specs.Sound.{GoodLeft, LeftIn, GoodLate};
+ghost use Rattle.frame_pairs.specs.Pairs.{spectrumGiven};
+ghost use Rattle.frame_pairs.specs.Sound.{Working, Small};
 use frame_bits::bit_at;
 use frame_bits::wide;
 use frame_coder::Coder;
@@ -21,17 +21,9 @@ pub enum Left {
     Cause(u8),
 }
 
-pub fn left_cause(r: Left) -> u8
-    ensures { λ k. ⌜ k ≡ leftCause r ⌝ }
-{
-    match r {
-        Left::Cause(k) => k,
-        Left::Value(_) => 0,
-    }
-}
-
 fn log2(r: usize) -> usize
-    ensures { λ k. ⌜ (k ≡ log2Of r 23) × (k ≤ 23) ⌝ }
+    ensures { λ k. ⌜ k ≡ log2Of r 23 ⌝ }
+    ensures { λ k. ⌜ k ≤ 23 ⌝ }
 {
     let mut k = 23;
     while 0 < k {
@@ -44,7 +36,11 @@ fn log2(r: usize) -> usize
 }
 
 pub fn bits_left(bytes: usize, p: usize, c: Coder) -> Left
-    requires { ⌜ (bytes ≤ 400) × (p ≤ 8 * bytes + 23) × (3 ≤ c .at) × (c .at ≤ bytes) × (c .range < 16777216) ⌝ }
+    requires { ⌜ bytes ≤ 400 ⌝ }
+    requires { ⌜ p ≤ 8 * bytes + 23 ⌝ }
+    requires { ⌜ 3 ≤ c .at ⌝ }
+    requires { ⌜ c .at ≤ bytes ⌝ }
+    requires { ⌜ c .range < 16777216 ⌝ }
     ensures { λ r. ⌜ leftGiven r p ≡ leftOf bytes p c ⌝ }
     ensures { λ r. ⌜ GoodLeft bytes p r ⌝ }
 {
@@ -58,8 +54,13 @@ pub fn bits_left(bytes: usize, p: usize, c: Coder) -> Left
 
 // The residual bits of LSB mode 0, packed into `bits`; their number.
 fn read_residual(s: &[u8], lines: &[i32], p: usize, left: usize, n: usize, bits: &mut [u8]) -> usize
-    requires { ⌜ Sized (now s) × (n ≤ length (now lines)) × (length (now bits) ≡ n) × (p + left ≤ 8 * length (now s)) ⌝ }
-    ensures { λ r. ⌜ _≡_ {A = Residual} (record { number = r; bits = now (bits .exit) }) (residualOf (now (s .entry)) (now (lines .entry)) p left n 0 0 (now (bits .entry))) ⌝ }
+    requires { ⌜ LeftIn (now s) p left ⌝ }
+    requires { ⌜ n ≤ length (now lines) ⌝ }
+    requires { ⌜ length (now bits) ≡ n ⌝ }
+    ensures { λ r. ⌜
+        residualGiven r (now (bits .exit))
+        ≡ residualOf (now (s .entry)) (now (lines .entry)) p left n 0 0 (now (bits .entry))
+        ⌝ }
     ensures { λ r. ⌜ r ≤ n ⌝ }
 {
     let mut count = 0;
@@ -94,7 +95,7 @@ fn further(v: i32) -> i32
 
 // The sign of a line that was 0.
 fn born(s: &[u8], p: usize, left: usize) -> LateRead
-    requires { ⌜ Sized (now s) × (p + left ≤ 8 * length (now s)) ⌝ }
+    requires { ⌜ LeftIn (now s) p left ⌝ }
     ensures { λ r. ⌜ lateGiven r ≡ bornOf (now (s .entry)) p left ⌝ }
     ensures { λ r. ⌜ GoodLate 0 (p + left) r ⌝ }
 {
@@ -109,7 +110,8 @@ fn born(s: &[u8], p: usize, left: usize) -> LateRead
 
 // The late low bits of a line.
 fn read_late(s: &[u8], v: i32, p: usize, left: usize) -> LateRead
-    requires { ⌜ Sized (now s) × (p + left ≤ 8 * length (now s)) × (natAbs v ≤ 32767) ⌝ }
+    requires { ⌜ LeftIn (now s) p left ⌝ }
+    requires { ⌜ natAbs v ≤ 32767 ⌝ }
     ensures { λ r. ⌜ lateGiven r ≡ lateOf (now (s .entry)) v p left ⌝ }
     ensures { λ r. ⌜ GoodLate (natAbs v) (p + left) r ⌝ }
 {
@@ -127,7 +129,9 @@ fn read_late(s: &[u8], v: i32, p: usize, left: usize) -> LateRead
 
 // The late low bits of LSB mode 1, into the first n lines.
 fn read_lates(s: &[u8], levels: &[u8], n: usize, lines: &mut [i32], start: usize, room: usize)
-    requires { ⌜ Sized (now s) × (n ≤ 400) × (length (now lines) ≡ 400) × (length (now levels) ≡ 200) × (start + room ≤ 8 * length (now s)) × Roomy 1 (now lines) (now levels) ⌝ }
+    requires { ⌜ LeftIn (now s) start room ⌝ }
+    requires { ⌜ Working 1 (now lines) (now levels) ⌝ }
+    requires { ⌜ n ≤ 400 ⌝ }
     ensures { λ _. ⌜ now (lines .exit) ≡ latesOf (now (s .entry)) (now (levels .entry)) n 0 (now (lines .entry)) start room ⌝ }
     ensures { λ _. ⌜ Small (now (lines .exit)) ⌝ }
 {
@@ -183,10 +187,24 @@ pub fn finish(
     spectrum: &mut [i32],
     bits: &mut [u8],
 ) -> usize
-    requires { ⌜ Sized (now s) × (lsb < 2) × (last ≤ 400) × (length (now lines) ≡ 400) × (length (now levels) ≡ 200) × (p + left ≤ 8 * length (now s)) × Roomy lsb (now lines) (now levels) × (length (now spectrum) ≤ 400) × (length (now bits) ≡ length (now spectrum)) ⌝ }
-    ensures { λ r. ⌜ _≡_ {A = Residual} (record { number = r; bits = now (bits .exit) }) (sentBits (now (s .entry)) lsb (length (now (spectrum .entry))) (record { lines = now (lines .entry); levels = now (levels .entry) }) p left) ⌝ }
-    ensures { λ r. ⌜ now (spectrum .exit) ≡ take (length (now (spectrum .entry))) (finishedOf (now (s .entry)) lsb last (record { lines = now (lines .entry); levels = now (levels .entry) }) p left) ⌝ }
-    ensures { λ r. ⌜ Small (now (spectrum .exit)) × (r ≤ 400) ⌝ }
+    requires { ⌜ LeftIn (now s) p left ⌝ }
+    requires { ⌜ Working lsb (now lines) (now levels) ⌝ }
+    requires { ⌜ length (now bits) ≡ length (now spectrum) ⌝ }
+    requires { ⌜ length (now spectrum) ≤ 400 ⌝ }
+    requires { ⌜ lsb < 2 ⌝ }
+    requires { ⌜ last ≤ 400 ⌝ }
+    ensures { λ r. ⌜
+        residualGiven r (now (bits .exit))
+        ≡ sentBits (now (s .entry)) lsb (length (now (spectrum .entry)))
+        (spectrumGiven (now (lines .entry)) (now (levels .entry))) p left
+        ⌝ }
+    ensures { λ r. ⌜
+        now (spectrum .exit)
+        ≡ take (length (now (spectrum .entry)))
+        (finishedOf (now (s .entry)) lsb last (spectrumGiven (now (lines .entry)) (now (levels .entry))) p left)
+        ⌝ }
+    ensures { λ r. ⌜ Small (now (spectrum .exit)) ⌝ }
+    ensures { λ r. ⌜ r ≤ 400 ⌝ }
 {
     clear(bits);
     if lsb == 0 {

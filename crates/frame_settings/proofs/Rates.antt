@@ -16,7 +16,7 @@ use Rattle.frame_settings.specs.declared.Rate.the-variants as rate
 
 -- ---- a rate that the code names
 
-pub rate-is : (khz k : ℕ) (r s : Rate) → khz ≡ k → settingIn rates k ≡ s → r ≡ s → r ≡ rateOf khz
+rate-is : (khz k : ℕ) (r s : Rate) → khz ≡ k → settingIn rates k ≡ s → r ≡ s → r ≡ rateOf khz
 unfolding rateOf
 rate-is khz k r s e t q = rw e (q ∙ sym t)
 
@@ -27,7 +27,8 @@ Other (x ∷ xs) khz = (khz ≡ x .khz → ⊥) × Other xs khz
 
 other-in : (xs : List RateRow) (khz : ℕ) → Other xs khz → settingIn xs khz ≡ rate.Unknown
 other-in [] khz o = refl
-other-in (x ∷ xs) khz o = ap (λ (b : Bool). cond b (rate.Known (x .given)) (settingIn xs khz)) (ne-eqb khz (x .khz) (o .0)) ∙ other-in xs khz (o .1)
+other-in (x ∷ xs) khz o =
+    ap (λ (b : Bool). cond b (rate.Known (x .given)) (settingIn xs khz)) (ne-eqb khz (x .khz) (o .0)) ∙ other-in xs khz (o .1)
 
 pub rate-other : (khz : ℕ) → Other rates khz → rate.Unknown ≡ rateOf khz
 unfolding rateOf
@@ -70,7 +71,8 @@ module _ (r : Setting) (t : T (sound r)) where
   some-lines : 0 < r .lines
   some-lines =
       ltb→lt 0 (r .lines)
-      (both-left (ltb 0 (r .lines)) (leb (r .lines) 400) (both-left (both (ltb 0 (r .lines)) (leb (r .lines) 400)) (both (even r) (bounds r)) t))
+      (both-left (ltb 0 (r .lines)) (leb (r .lines) 400) (both-left (both (ltb 0 (r .lines)) (leb (r .lines) 400))
+      (both (even r) (bounds r)) t))
 
   known : Known r
   known =
@@ -90,8 +92,11 @@ known-in : (q : Rate) → SoundRate q → KnownRate q
 known-in (rate.Known r) t = known r t
 known-in rate.Unknown t = tt
 
-pub known-rate : (khz : ℕ) (q : Rate) → q ≡ rateOf khz → KnownRate q
+known-rate : (khz : ℕ) (q : Rate) → q ≡ rateOf khz → KnownRate q
 known-rate khz q e = rw e (known-in (rateOf khz) (sound-rate khz))
+
+pub rate-row : (khz k : ℕ) (r s : Rate) → khz ≡ k → settingIn rates k ≡ s → r ≡ s → (r ≡ rateOf khz) × KnownRate r
+rate-row khz k r s e t q = let i = rate-is khz k r s e t q in (i, known-rate khz r i)
 
 lines-in : (q : Rate) → SoundRate q → linesAt q ≤ 400
 lines-in (rate.Known r) t = known r t .lines

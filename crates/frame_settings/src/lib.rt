@@ -44,8 +44,10 @@ pub fn rate_setting(khz: u32) -> Rate
 }
 
 pub fn rate_offset(index: usize, bytes: usize) -> usize
-    requires { ⌜ (index ≤ 4) × (bytes ≤ 400) ⌝ }
-    ensures { λ r. ⌜ (r ≡ rateOffset index bytes) × (r ≤ 512) ⌝ }
+    requires { ⌜ index ≤ 4 ⌝ }
+    requires { ⌜ bytes ≤ 400 ⌝ }
+    ensures { λ r. ⌜ r ≡ rateOffset index bytes ⌝ }
+    ensures { λ r. ⌜ r ≤ 512 ⌝ }
 {
     if 160 + 160 * index < 8 * bytes {
         512
@@ -56,7 +58,8 @@ pub fn rate_offset(index: usize, bytes: usize) -> usize
 
 pub fn tns_weighting(bytes: usize) -> usize
     requires { ⌜ bytes ≤ 400 ⌝ }
-    ensures { λ r. ⌜ (r ≡ weighting bytes) × (r < 2) ⌝ }
+    ensures { λ r. ⌜ r ≡ weighting bytes ⌝ }
+    ensures { λ r. ⌜ r < 2 ⌝ }
 {
     if 8 * bytes < 480 { 1 } else { 0 }
 }

@@ -1,22 +1,60 @@
--- The shape's steps one by one: what its definition is where each field is read. Assumes nothing.
+-- The shape's six fields in the order of reading, and what its definition is behind them. Assumes nothing.
 use mathlib.Core.Path.{_≡_}
 use mathlib.Core.List.{List}
 use Prim.Native.Nat.{ℕ, _+_, _-_, _≤_, _<_}
+use native.Mathlib.Omega.{arith}
 use borrow.Author.Tests.{le-leb, lt-leb}
 use Rattle.frame_bits.specs.Read.{value, cause}
-use Rattle.frame_bits.specs.Bits.{readBits}
+use Rattle.frame_bits.specs.Sound.{GoodField}
+use Rattle.frame_bits.specs.declared.Field.{Field}
+use Rattle.frame_bits.proofs.SideBits.{in-more}
 use Rattle.frame_shape.specs.Shape.{shapeOf, jointEnd}
 
--- the shape: both fives l and h, mode bit m, gain g, sign bit n, joint index j
-pub shape-far :
-    (s : List ℕ) (p l p1 h p2 m p3 g p4 n p5 j p6 : ℕ) → readBits s p 5 ≡ value l p1 → readBits s p1 5 ≡ value h p2 → readBits s p2 1 ≡ value m p3
-    → readBits s p3 (1 + m) ≡ value g p4 → readBits s p4 1 ≡ value n p5 → readBits s p5 (25 - m) ≡ value j p6 → jointEnd m ≤ j → shapeOf s p ≡ cause 3
-unfolding shapeOf
-shape-far s p l p1 h p2 m p3 g p4 n p5 j p6 e1 e2 e3 e4 e5 e6 k = rw (e1, e2, e3, e4, e5, e6, le-leb (jointEnd m) j k)
+-- both fives l and h, mode bit m, gain g, sign bit n, joint index j
+pub record ShapeFields (s : List ℕ) (p : ℕ) (l h m g n j : Field) : Type 0 where
+  pub low : GoodField s p 5 l
+  pub high : GoodField s (l .next) 5 h
+  pub mode : GoodField s (h .next) 1 m
+  pub gain : GoodField s (m .next) (1 + m .value) g
+  pub sign : GoodField s (g .next) 1 n
+  pub joint : GoodField s (n .next) (25 - m .value) j
 
-pub shape-done :
-    (s : List ℕ) (p l p1 h p2 m p3 g p4 n p5 j p6 : ℕ) → readBits s p 5 ≡ value l p1 → readBits s p1 5 ≡ value h p2 → readBits s p2 1 ≡ value m p3
-    → readBits s p3 (1 + m) ≡ value g p4 → readBits s p4 1 ≡ value n p5 → readBits s p5 (25 - m) ≡ value j p6 → j < jointEnd m
-    → shapeOf s p ≡ value (record { low = l; high = h; mode = m; gain = g; sign = n; joint = j }) p6
-unfolding shapeOf
-shape-done s p l p1 h p2 m p3 g p4 n p5 j p6 e1 e2 e3 e4 e5 e6 k = rw (e1, e2, e3, e4, e5, e6, lt-leb (jointEnd m) j k)
+module _ (s : List ℕ) (p : ℕ) (l h m g n j : Field) (f : ShapeFields s p l h m g n j) where
+  pub shape-far : jointEnd (m .value) ≤ j .value → shapeOf s p ≡ cause 3
+  unfolding shapeOf
+  shape-far k =
+      rw (
+        f .low .found,
+        f .high .found,
+        f .mode .found,
+        f .gain .found,
+        f .sign .found,
+        f .joint .found,
+        le-leb (jointEnd (m .value)) (j .value) k,
+      )
+
+  pub shape-done :
+      j .value < jointEnd (m .value)
+      → shapeOf s p ≡ value (record {
+        low = l .value;
+        high = h .value;
+        mode = m .value;
+        gain = g .value;
+        sign = n .value;
+        joint = j .value;
+      }) (j .next)
+  unfolding shapeOf
+  shape-done k =
+      rw (
+        f .low .found,
+        f .high .found,
+        f .mode .found,
+        f .gain .found,
+        f .sign .found,
+        f .joint .found,
+        lt-leb (jointEnd (m .value)) (j .value) k,
+      )
+
+-- the gain has one or two bits
+pub gain-below : (s : List ℕ) (p q : ℕ) (m g : Field) → GoodField s p 1 m → GoodField s q (1 + m .value) g → g .value < 4
+gain-below s p q m g e f = in-more (g .value) (1 + m .value) 2 (f .below) (omega (arith, e .below))

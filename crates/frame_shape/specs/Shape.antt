@@ -24,7 +24,3 @@ shapeOf s p =
 abbrev pub shapeGiven : ShapeRead → Read ℕ Shape
 shapeGiven (shape.Value q p) = value q p
 shapeGiven (shape.Cause k) = cause k
-
-abbrev pub shapeCause : ShapeRead → ℕ
-shapeCause (shape.Value q p) = 0
-shapeCause (shape.Cause k) = k

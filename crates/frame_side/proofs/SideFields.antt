@@ -4,7 +4,8 @@ use mathlib.Core.List.{List}
 use Prim.Native.Nat.{ℕ, _+_, _-_, _*_, _≤_, _<_}
 use borrow.Author.Tests.{lt-ltb, le-ltb}
 use Rattle.frame_bits.specs.Read.{value, cause}
-use Rattle.frame_bits.specs.Bits.{readBits}
+use Rattle.frame_bits.specs.Sound.{GoodField}
+use Rattle.frame_bits.specs.declared.Field.{Field}
 use Rattle.frame_side.specs.Side.{headOf, flagsOf, secondFlag, tailOf, sideOf}
 use Rattle.frame_shape.specs.Shape.{shapeOf}
 use Rattle.frame_settings.specs.declared.Setting.{Setting}
@@ -14,35 +15,36 @@ use Rattle.frame_shape.specs.declared.Shape.{Shape}
 use Rattle.frame_side.specs.declared.Tail.{Tail}
 
 -- the head: bandwidth b, last pair f, LSB mode m, global gain g
-pub head-wide : (s : List ℕ) (r : Setting) (b p : ℕ) → readBits s 0 (r .bandwidth) ≡ value b p → r .index < b → headOf s r ≡ cause 1
-unfolding headOf
-head-wide s r b p e h = rw (e, lt-ltb (r .index) b h)
+module _ (s : List ℕ) (r : Setting) (b : Field) (e : GoodField s 0 (r .bandwidth) b) where
+  pub head-wide : r .index < b .value → headOf s r ≡ cause 1
+  unfolding headOf
+  head-wide k = rw (e .found, lt-ltb (r .index) (b .value) k)
 
-pub head-long :
-    (s : List ℕ) (r : Setting) (b p f q : ℕ) → readBits s 0 (r .bandwidth) ≡ value b p → b ≤ r .index → readBits s p (r .pair) ≡ value f q
-    → r .lines < 2 * (f + 1) → headOf s r ≡ cause 2
-unfolding headOf
-head-long s r b p f q e h d k = rw (e, le-ltb (r .index) b h, d, lt-ltb (r .lines) (2 * (f + 1)) k)
+  module _ (k : b .value ≤ r .index) (f : Field) (d : GoodField s (b .next) (r .pair) f) where
+    pub head-long : r .lines < 2 * (f .value + 1) → headOf s r ≡ cause 2
+    unfolding headOf
+    head-long l = rw (e .found, le-ltb (r .index) (b .value) k, d .found, lt-ltb (r .lines) (2 * (f .value + 1)) l)
 
-pub head-done :
-    (s : List ℕ) (r : Setting) (b p f q m t g u : ℕ) → readBits s 0 (r .bandwidth) ≡ value b p → b ≤ r .index → readBits s p (r .pair) ≡ value f q
-    → 2 * (f + 1) ≤ r .lines → readBits s q 1 ≡ value m t → readBits s t 8 ≡ value g u
-    → headOf s r ≡ value (record { bandwidth = b; «last_line» = 2 * (f + 1); «lsb_mode» = m; gain = g }) u
-unfolding headOf
-head-done s r b p f q m t g u e h d k i j = rw (e, le-ltb (r .index) b h, d, le-ltb (r .lines) (2 * (f + 1)) k, i, j)
+    pub head-done :
+        2 * (f .value + 1) ≤ r .lines → (m g : Field) → GoodField s (f .next) 1 m → GoodField s (m .next) 8 g
+        → headOf s r
+        ≡ value (record { bandwidth = b .value; «last_line» = 2 * (f .value + 1); «lsb_mode» = m .value; gain = g .value }) (g .next)
+    unfolding headOf
+    head-done l m g i j =
+        rw (e .found, le-ltb (r .index) (b .value) k, d .found, le-ltb (r .lines) (2 * (f .value + 1)) l, i .found, j .found)
 
 -- n is the bits of the second filter's flag
 pub flags-done :
-    (s : List ℕ) (w p a q b t f u n : ℕ) → n ≡ secondFlag w → readBits s p 1 ≡ value a q → readBits s q n ≡ value b t → readBits s t 1 ≡ value f u
-    → flagsOf s w p ≡ value (record { «tns_0» = a; «tns_1» = b; «pitch_present» = f }) u
+    (s : List ℕ) (w p n : ℕ) (a b f : Field) → n ≡ secondFlag w → GoodField s p 1 a → GoodField s (a .next) n b → GoodField s (b .next) 1 f
+    → flagsOf s w p ≡ value (record { «tns_0» = a .value; «tns_1» = b .value; «pitch_present» = f .value }) (f .next)
 unfolding flagsOf
-flags-done s w p a q b t f u n k e d i = let j = rw k at d in rw (e, j, i)
+flags-done s w p n a b f k e d i = let j = rw k at (d .found) in rw (e .found, j, i .found)
 
 pub tail-done :
-    (s : List ℕ) (w p f q t u n v : ℕ) → readBits s p w ≡ value f q → readBits s q (9 * w) ≡ value t u → readBits s u 3 ≡ value n v
-    → tailOf s w p ≡ value (record { «filter_flag» = f; «pitch_index» = t; «noise_level» = n }) v
+    (s : List ℕ) (w p : ℕ) (f t n : Field) → GoodField s p w f → GoodField s (f .next) (9 * w) t → GoodField s (t .next) 3 n
+    → tailOf s w p ≡ value (record { «filter_flag» = f .value; «pitch_index» = t .value; «noise_level» = n .value }) (n .next)
 unfolding tailOf
-tail-done s w p f q t u n v e d i = rw (e, d, i)
+tail-done s w p f t n e d i = rw (e .found, d .found, i .found)
 
 -- the whole, and its two ways to a cause
 pub side-head : (s : List ℕ) (r : Setting) (k : ℕ) → headOf s r ≡ cause k → sideOf s r ≡ cause k

@@ -13,10 +13,6 @@ use Rattle.frame_side.specs.declared.Tail.{Tail}
 use Rattle.frame_side.specs.declared.Side.{Side}
 use Rattle.frame_side.specs.declared.HeadRead.{HeadRead}
 use Rattle.frame_side.specs.declared.HeadRead.the-variants as head
-use Rattle.frame_side.specs.declared.FlagsRead.{FlagsRead}
-use Rattle.frame_side.specs.declared.FlagsRead.the-variants as flags
-use Rattle.frame_side.specs.declared.TailRead.{TailRead}
-use Rattle.frame_side.specs.declared.TailRead.the-variants as tail
 use Rattle.frame_side.specs.declared.SideRead.{SideRead}
 use Rattle.frame_side.specs.declared.SideRead.the-variants as side
 use Rattle.frame_shape.specs.Shape.{shapeOf}
@@ -54,31 +50,6 @@ abbrev pub headGiven : HeadRead → Read ℕ Head
 headGiven (head.Value h p) = value h p
 headGiven (head.Cause k) = cause k
 
-abbrev pub flagsGiven : FlagsRead → Read ℕ Flags
-flagsGiven (flags.Value f p) = value f p
-flagsGiven (flags.Cause k) = cause k
-
-abbrev pub tailGiven : TailRead → Read ℕ Tail
-tailGiven (tail.Value t p) = value t p
-tailGiven (tail.Cause k) = cause k
-
 abbrev pub sideGiven : SideRead → Read ℕ Side
 sideGiven (side.Value v p) = value v p
 sideGiven (side.Cause k) = cause k
-
--- the cause of each answer
-abbrev pub headCause : HeadRead → ℕ
-headCause (head.Value h p) = 0
-headCause (head.Cause k) = k
-
-abbrev pub flagsCause : FlagsRead → ℕ
-flagsCause (flags.Value f p) = 0
-flagsCause (flags.Cause k) = k
-
-abbrev pub tailCause : TailRead → ℕ
-tailCause (tail.Value t p) = 0
-tailCause (tail.Cause k) = k
-
-abbrev pub sideCause : SideRead → ℕ
-sideCause (side.Value v p) = 0
-sideCause (side.Cause k) = k

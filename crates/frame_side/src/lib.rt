@@ -1,21 +1,17 @@
-// The side information (5.4.2.3), field by field by let-else: each function equals its definition in specs/Side.antt, and no field
+// The side information (5.4.2.3), field by field: each function equals its definition in specs/Side.antt, and no field
 // leaves a frame of 20 bytes.
 // Inner: `frame_spectral`, `frame_arithmetic` and `frame` stand over it. It asks for a known setting and a frame of 20 to 400 bytes.
 ghost use mathlib.Core.Path.{_≡_};
-ghost use Prim.Native.Nat.{_+_, _*_, _≤_, _<_};
+ghost use Prim.Native.Nat.{_≤_, _<_};
 ghost use Rattle.frame_settings.specs.Settings.{Known, Sized};
-ghost use Rattle.frame_side.specs.Side.{headOf, headGiven, secondFlag, flagsOf, flagsGiven, tailOf, tailGiven};
-ghost use Rattle.frame_side.specs.Side.{sideOf, sideGiven, headCause, flagsCause, tailCause, sideCause};
+ghost use Rattle.frame_side.specs.Side.{headOf, headGiven, secondFlag, sideOf, sideGiven};
 ghost use Rattle.frame_side.specs.Sound.{GoodHead, GoodFlags, GoodTail, GoodSide};
-use frame_bits::Bits;
-use frame_bits::cause_of;
 use frame_bits::read_bits;
 use frame_bits::wide;
 use frame_settings::Setting;
 pub use frame_shape::Shape;
 use frame_shape::ShapeRead;
 use frame_shape::read_shape;
-use frame_shape::shape_cause;
 
 pub struct Head {
     pub bandwidth: u8,
@@ -49,14 +45,16 @@ pub enum HeadRead {
     Cause(u8),
 }
 
-pub enum FlagsRead {
-    Value(Flags, usize),
-    Cause(u8),
+// The flags with the next cursor.
+pub struct FlagsRead {
+    pub flags: Flags,
+    pub next: usize,
 }
 
-pub enum TailRead {
-    Value(Tail, usize),
-    Cause(u8),
+// The tail with the next cursor.
+pub struct TailRead {
+    pub tail: Tail,
+    pub next: usize,
 }
 
 pub enum SideRead {
@@ -65,170 +63,107 @@ pub enum SideRead {
 }
 
 fn read_head(s: &[u8], r: Setting) -> HeadRead
-    requires { ⌜ Known r × Sized (now s) ⌝ }
+    requires { ⌜ Known r ⌝ }
+    requires { ⌜ Sized (now s) ⌝ }
     ensures { λ h. ⌜ headGiven h ≡ headOf (now (s .entry)) r ⌝ }
     ensures { λ h. ⌜ GoodHead r h ⌝ }
 {
     let index = r.index;
     let lines = r.lines;
-    let got = read_bits(s, 0, r.bandwidth);
-    let Bits::Value(bandwidth, p1) = got else {
-        return HeadRead::Cause(cause_of(got));
-    };
-    if index < bandwidth {
+    let bandwidth = read_bits(s, 0, r.bandwidth);
+    if index < bandwidth.value {
         return HeadRead::Cause(1);
     }
-    let got2 = read_bits(s, p1, r.pair);
-    let Bits::Value(field, p2) = got2 else {
-        return HeadRead::Cause(cause_of(got2));
-    };
-    if lines < 2 * (field + 1) {
+    let pair = read_bits(s, bandwidth.next, r.pair);
+    let last_line = 2 * (pair.value + 1);
+    if lines < last_line {
         return HeadRead::Cause(2);
     }
-    let got3 = read_bits(s, p2, 1);
-    let Bits::Value(lsb_mode, p3) = got3 else {
-        return HeadRead::Cause(cause_of(got3));
-    };
-    let got4 = read_bits(s, p3, 8);
-    let Bits::Value(gain, p4) = got4 else {
-        return HeadRead::Cause(cause_of(got4));
-    };
+    let lsb_mode = read_bits(s, pair.next, 1);
+    let gain = read_bits(s, lsb_mode.next, 8);
     HeadRead::Value(
         Head {
-            bandwidth: bandwidth as u8,
-            last_line: (2 * (field + 1)) as u16,
-            lsb_mode: lsb_mode as u8,
-            gain: gain as u8,
+            bandwidth: bandwidth.value as u8,
+            last_line: last_line as u16,
+            lsb_mode: lsb_mode.value as u8,
+            gain: gain.value as u8,
         },
-        p4,
+        gain.next,
     )
 }
 
 // The bits of the second filter's flag.
 fn second_flag(bandwidth: usize) -> usize
-    ensures { λ r. ⌜ (r ≡ secondFlag bandwidth) × (r ≤ 1) ⌝ }
+    ensures { λ r. ⌜ r ≡ secondFlag bandwidth ⌝ }
+    ensures { λ r. ⌜ r ≤ 1 ⌝ }
 {
     if bandwidth < 3 { 0 } else { 1 }
 }
 
 fn read_flags(s: &[u8], bandwidth: usize, p: usize) -> FlagsRead
-    requires { ⌜ (p ≤ 20) × Sized (now s) ⌝ }
-    ensures { λ r. ⌜ flagsGiven r ≡ flagsOf (now (s .entry)) bandwidth p ⌝ }
-    ensures { λ r. ⌜ GoodFlags p r ⌝ }
+    requires { ⌜ p ≤ 20 ⌝ }
+    requires { ⌜ Sized (now s) ⌝ }
+    ensures { λ r. ⌜ GoodFlags (now (s .entry)) bandwidth p r ⌝ }
 {
-    let got = read_bits(s, p, 1);
-    let Bits::Value(tns_0, p1) = got else {
-        return FlagsRead::Cause(cause_of(got));
-    };
-    let got2 = read_bits(s, p1, second_flag(bandwidth));
-    let Bits::Value(tns_1, p2) = got2 else {
-        return FlagsRead::Cause(cause_of(got2));
-    };
-    let got3 = read_bits(s, p2, 1);
-    let Bits::Value(pitch_present, p3) = got3 else {
-        return FlagsRead::Cause(cause_of(got3));
-    };
-    FlagsRead::Value(
-        Flags {
-            tns_0: tns_0 as u8,
-            tns_1: tns_1 as u8,
-            pitch_present: pitch_present as u8,
+    let tns_0 = read_bits(s, p, 1);
+    let tns_1 = read_bits(s, tns_0.next, second_flag(bandwidth));
+    let pitch_present = read_bits(s, tns_1.next, 1);
+    FlagsRead {
+        flags: Flags {
+            tns_0: tns_0.value as u8,
+            tns_1: tns_1.value as u8,
+            pitch_present: pitch_present.value as u8,
         },
-        p3,
-    )
+        next: pitch_present.next,
+    }
 }
 
 fn read_tail(s: &[u8], pitch: usize, p: usize) -> TailRead
-    requires { ⌜ (pitch < 2) × (p ≤ 61) × Sized (now s) ⌝ }
-    ensures { λ r. ⌜ tailGiven r ≡ tailOf (now (s .entry)) pitch p ⌝ }
-    ensures { λ r. ⌜ GoodTail p r ⌝ }
+    requires { ⌜ pitch < 2 ⌝ }
+    requires { ⌜ p ≤ 61 ⌝ }
+    requires { ⌜ Sized (now s) ⌝ }
+    ensures { λ r. ⌜ GoodTail (now (s .entry)) pitch p r ⌝ }
 {
-    let got = read_bits(s, p, pitch);
-    let Bits::Value(filter_flag, p1) = got else {
-        return TailRead::Cause(cause_of(got));
-    };
-    let got2 = read_bits(s, p1, 9 * pitch);
-    let Bits::Value(pitch_index, p2) = got2 else {
-        return TailRead::Cause(cause_of(got2));
-    };
-    let got3 = read_bits(s, p2, 3);
-    let Bits::Value(noise_level, p3) = got3 else {
-        return TailRead::Cause(cause_of(got3));
-    };
-    TailRead::Value(
-        Tail {
-            filter_flag: filter_flag as u8,
-            pitch_index: pitch_index as u16,
-            noise_level: noise_level as u8,
+    let filter_flag = read_bits(s, p, pitch);
+    let pitch_index = read_bits(s, filter_flag.next, 9 * pitch);
+    let noise_level = read_bits(s, pitch_index.next, 3);
+    TailRead {
+        tail: Tail {
+            filter_flag: filter_flag.value as u8,
+            pitch_index: pitch_index.value as u16,
+            noise_level: noise_level.value as u8,
         },
-        p3,
-    )
+        next: noise_level.next,
+    }
 }
 
 pub fn read_side(s: &[u8], r: Setting) -> SideRead
-    requires { ⌜ Known r × Sized (now s) ⌝ }
+    requires { ⌜ Known r ⌝ }
+    requires { ⌜ Sized (now s) ⌝ }
     ensures { λ v. ⌜ sideGiven v ≡ sideOf (now (s .entry)) r ⌝ }
     ensures { λ v. ⌜ GoodSide r v ⌝ }
 {
-    let got = read_head(s, r);
-    let HeadRead::Value(h, p1) = got else {
-        return SideRead::Cause(head_cause(got));
-    };
-    let got2 = read_flags(s, wide(h.bandwidth), p1);
-    let FlagsRead::Value(f, p2) = got2 else {
-        return SideRead::Cause(flags_cause(got2));
-    };
-    let got3 = read_shape(s, p2);
-    let ShapeRead::Value(q, p3) = got3 else {
-        return SideRead::Cause(shape_cause(got3));
-    };
-    let got4 = read_tail(s, wide(f.pitch_present), p3);
-    let TailRead::Value(t, p4) = got4 else {
-        return SideRead::Cause(tail_cause(got4));
-    };
-    SideRead::Value(
-        Side {
-            head: h,
-            flags: f,
-            shape: q,
-            tail: t,
-        },
-        p4,
-    )
-}
-
-fn head_cause(r: HeadRead) -> u8
-    ensures { λ k. ⌜ k ≡ headCause r ⌝ }
-{
-    match r {
-        HeadRead::Cause(k) => k,
-        HeadRead::Value(_, _) => 0,
-    }
-}
-
-fn flags_cause(r: FlagsRead) -> u8
-    ensures { λ k. ⌜ k ≡ flagsCause r ⌝ }
-{
-    match r {
-        FlagsRead::Cause(k) => k,
-        FlagsRead::Value(_, _) => 0,
-    }
-}
-
-fn tail_cause(r: TailRead) -> u8
-    ensures { λ k. ⌜ k ≡ tailCause r ⌝ }
-{
-    match r {
-        TailRead::Cause(k) => k,
-        TailRead::Value(_, _) => 0,
-    }
-}
-
-pub fn side_cause(r: SideRead) -> u8
-    ensures { λ k. ⌜ k ≡ sideCause r ⌝ }
-{
-    match r {
-        SideRead::Cause(k) => k,
-        SideRead::Value(_, _) => 0,
+    match read_head(s, r) {
+        HeadRead::Cause(k) => SideRead::Cause(k),
+        HeadRead::Value(head, p) => {
+            let f = read_flags(s, wide(head.bandwidth), p);
+            let flags = f.flags;
+            match read_shape(s, f.next) {
+                ShapeRead::Cause(k) => SideRead::Cause(k),
+                ShapeRead::Value(shape, q) => {
+                    let t = read_tail(s, wide(flags.pitch_present), q);
+                    let tail = t.tail;
+                    SideRead::Value(
+                        Side {
+                            head,
+                            flags,
+                            shape,
+                            tail,
+                        },
+                        t.next,
+                    )
+                }
+            }
+        }
     }
 }

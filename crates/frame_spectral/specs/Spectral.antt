@@ -44,13 +44,10 @@ spectralFrom s r h c p =
 
 -- the answer of the pairs and what follows them, with the lines and the residual bits in the buffers lent; on a cause both are as lent
 abbrev pub spectralGiven : SpectralRead → List ℤ → List ℕ → Read ℕ Spectral
-spectralGiven (spectralRead.Value symbols number p) lines bits = value (record { symbols = symbols; lines = lines; residual = record { number = number; bits = bits } }) p
+spectralGiven (spectralRead.Value symbols number p) lines bits =
+    value (record { symbols = symbols; lines = lines; residual = record { number = number; bits = bits } }) p
 spectralGiven (spectralRead.Cause k) lines bits = cause k
 
 abbrev pub KeptOnCause : SpectralRead → List ℤ → List ℤ → List ℕ → List ℕ → Type 0
 KeptOnCause (spectralRead.Value symbols number p) lines lines′ bits bits′ = Unit {0}
 KeptOnCause (spectralRead.Cause k) lines lines′ bits bits′ = (lines′ ≡ lines) × (bits′ ≡ bits)
-
-abbrev pub spectralCause : SpectralRead → ℕ
-spectralCause (spectralRead.Value symbols number p) = 0
-spectralCause (spectralRead.Cause k) = k

@@ -12,7 +12,8 @@ use Rattle.frame_coder.specs.declared.Coder.{Coder}
 
 -- ---- the coefficients from k on: all of them, none left, no symbol, one more
 
-pub coefficients-all : (s rows : List ℕ) (n : ℕ) (l : List ℕ) (c : Coder) → coefficientsOf s rows (n - 0) 0 l c ≡ coefficientsOf s rows n 0 l c
+pub coefficients-all : (s rows : List ℕ) (n : ℕ) (l : List ℕ) (c : Coder)
+    → coefficientsOf s rows (n - 0) 0 l c ≡ coefficientsOf s rows n 0 l c
 coefficients-all s rows n l c = let p : n - 0 ≡ n = omega arith in rw p
 
 pub coefficients-done : (s rows : List ℕ) (n k : ℕ) (l : List ℕ) (c : Coder) → n ≤ k → coefficientsOf s rows (n - k) k l c ≡ value l c
@@ -44,7 +45,8 @@ pub no-order : (s orders rows : List ℕ) (w flag : ℕ) (c : Coder) (x : ℕ) �
 unfolding filterOf sentOf
 no-order s orders rows w flag c x h e = rw (ne-eqb flag 0 h, e)
 
-pub no-coefficients : (s orders rows : List ℕ) (w flag : ℕ) (c d : Coder) (v x : ℕ) → (flag ≡ 0 → ⊥) → symbolOf s orders (w * 9) 7 c ≡ value v d
+pub no-coefficients : (s orders rows : List ℕ) (w flag : ℕ) (c d : Coder) (v x : ℕ) → (flag ≡ 0 → ⊥)
+    → symbolOf s orders (w * 9) 7 c ≡ value v d
     → coefficientsOf s rows (v + 1) 0 unused d ≡ cause x → filterOf s orders rows w flag c ≡ cause x
 unfolding filterOf sentOf
 no-coefficients s orders rows w flag c d v x h e f = let q : v + 1 ≡ suc v = omega arith in rw (ne-eqb flag 0 h, e, ← q, f)

@@ -12,9 +12,12 @@ use Rattle.frame_tns.specs.declared.CoefficientsRead.the-variants as coe
 use Rattle.frame_coder.specs.Sound.{Sound}
 
 -- what the TNS tables have to be: two rows of orders, eight rows of coefficients
+abbrev pub CoefficientRows : List ℕ → Type 0
+CoefficientRows rows = (k : ℕ) → k < 8 → Row rows (k * 18) 16
+
 pub record TnsTables (orders rows : List ℕ) : Type 0 where
   pub order : (w : ℕ) → w < 2 → Row orders (w * 9) 7
-  pub coefficient : (k : ℕ) → k < 8 → Row rows (k * 18) 16
+  pub coefficient : CoefficientRows rows
 
 abbrev pub GoodCoefficients : List ℕ → ℕ → Coder → CoefficientsRead → Type 0
 GoodCoefficients s n c (coefficients.Value d) = (d .taken ≡ c .taken + n) × Sound s d

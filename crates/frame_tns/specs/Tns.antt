@@ -45,11 +45,3 @@ coefficientsGiven (coefficients.Cause k) l = cause k
 abbrev pub filterGiven : FilterRead → List ℕ → Read Coder Filter
 filterGiven (filter.Value n c) l = value (record { order = n; coefficients = l }) c
 filterGiven (filter.Cause k) l = cause k
-
-abbrev pub coefficientsCause : CoefficientsRead → ℕ
-coefficientsCause (coefficients.Value c) = 0
-coefficientsCause (coefficients.Cause k) = k
-
-abbrev pub filterCause : FilterRead → ℕ
-filterCause (filter.Value n c) = 0
-filterCause (filter.Cause k) = k

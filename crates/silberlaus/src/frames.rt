@@ -1,9 +1,10 @@
-// A frame read into its fields under C names, lent as it is or as an entry of a record, and the number of lines. It stands over `silberlaus_frames`.
+// A frame read into its fields under C names, lent as it is or as an entry of a record, and the number of lines. It stands over
+// `silberlaus_frames`.
 ghost use mathlib.Core.Path.{_≡_};
 ghost use lib.ListN.{length};
 ghost use Rattle.frame_settings.specs.Settings.{lineCount};
 ghost use Rattle.frame.specs.Frame.{judgedOf};
-ghost use Rattle.frame_arithmetic.specs.Answers.{givenOf, spectrumOf, residualAfter};
+ghost use Rattle.frame_arithmetic.specs.Answers.{Answers};
 ghost use Rattle.silberlaus_frames.specs.Frames.{frameGiven, judgedEntry, Bounded};
 use silberlaus_frames::SilberlausFrame;
 
@@ -21,9 +22,11 @@ pub extern "C" fn silberlaus_read_frame(
     spectrum: &mut [i32],
     residual: &mut [u8],
 ) -> SilberlausFrame
-    ensures { λ r. ⌜ frameGiven r ≡ givenOf (judgedOf khz (now (bytes .entry)) (length (now (spectrum .entry))) (length (now (residual .entry)))) ⌝ }
-    ensures { λ r. ⌜ now (spectrum .exit) ≡ spectrumOf (judgedOf khz (now (bytes .entry)) (length (now (spectrum .entry))) (length (now (residual .entry)))) (now (spectrum .entry)) ⌝ }
-    ensures { λ r. ⌜ now (residual .exit) ≡ residualAfter (judgedOf khz (now (bytes .entry)) (length (now (spectrum .entry))) (length (now (residual .entry)))) (now (residual .entry)) ⌝ }
+    ensures { λ r. ⌜
+        Answers (frameGiven r)
+        (judgedOf khz (now (bytes .entry)) (length (now (spectrum .entry))) (length (now (residual .entry))))
+        (now (spectrum .entry)) (now (spectrum .exit)) (now (residual .entry)) (now (residual .exit))
+        ⌝ }
     ensures { λ r. ⌜ Bounded (r .number) (r .cause) (r .symbols) (r .«last_line») (now (spectrum .exit)) ⌝ }
 {
     silberlaus_frames::read_frame(khz, bytes, spectrum, residual)
@@ -37,9 +40,11 @@ pub extern "C" fn silberlaus_read_entry(
     spectrum: &mut [i32],
     residual: &mut [u8],
 ) -> SilberlausFrame
-    ensures { λ r. ⌜ frameGiven r ≡ givenOf (judgedEntry khz (now (bytes .entry)) place (length (now (spectrum .entry))) (length (now (residual .entry)))) ⌝ }
-    ensures { λ r. ⌜ now (spectrum .exit) ≡ spectrumOf (judgedEntry khz (now (bytes .entry)) place (length (now (spectrum .entry))) (length (now (residual .entry)))) (now (spectrum .entry)) ⌝ }
-    ensures { λ r. ⌜ now (residual .exit) ≡ residualAfter (judgedEntry khz (now (bytes .entry)) place (length (now (spectrum .entry))) (length (now (residual .entry)))) (now (residual .entry)) ⌝ }
+    ensures { λ r. ⌜
+        Answers (frameGiven r)
+        (judgedEntry khz (now (bytes .entry)) place (length (now (spectrum .entry))) (length (now (residual .entry))))
+        (now (spectrum .entry)) (now (spectrum .exit)) (now (residual .entry)) (now (residual .exit))
+        ⌝ }
     ensures { λ r. ⌜ Bounded (r .number) (r .cause) (r .symbols) (r .«last_line») (now (spectrum .exit)) ⌝ }
 {
     silberlaus_frames::read_entry(bytes, place, khz, spectrum, residual)

@@ -12,7 +12,7 @@ use lib.IntN.{ℤ}
 use borrow.Author.Tests.{le-leb, ltb-true, ltb-false, eq-eqb, ne-eqb}
 use Rattle.frame_settings.specs.Settings.{rateOf, linesAt, lineCount}
 use Rattle.frame_settings.proofs.Rates.{rate-unknown}
-use Rattle.frame_arithmetic.specs.Answers.{Judged, refused, judgedRead, Given, answered, told, givenOf, refusedWith, spectrumOf, residualAfter}
+use Rattle.frame_arithmetic.specs.Answers.{Judged, refused, judgedRead, Given, answered, told, givenOf, refusedWith, Answers}
 use Rattle.frame.specs.Frame.{judgedAt, judgedOf, frameOf}
 use Rattle.frame_arithmetic.specs.Sound as sound
 use Rattle.frame_settings.specs.declared.Setting.{Setting}
@@ -44,7 +44,8 @@ symbols-are e = ap (λ (x : Given). x .fields .symbols) e
 last-is : {a b : Given} → a ≡ b → a .fields .side .head .«last_line» ≡ b .fields .side .head .«last_line»
 last-is e = ap (λ (x : Given). x .fields .side .head .«last_line») e
 
-bounded : (a : Answer) (first second : List ℕ) (o : SilberlausFrame) (lines : List ℤ) → frameGiven o ≡ answered a first second → sound.Bounded a lines
+bounded : (a : Answer) (first second : List ℕ) (o : SilberlausFrame) (lines : List ℤ) → frameGiven o ≡ answered a first second
+    → sound.Bounded a lines
     → Bounded (o .number) (o .cause) (o .symbols) (o .«last_line») lines
 bounded (answer.Read f) first second o lines e h = rw (number-is e, symbols-are e, last-is e) h
 bounded answer.Setting first second o lines e h = rw (number-is e, cause-is e) (omega arith)
@@ -57,33 +58,43 @@ bounded-at (suc n) h symbols last lines = omega arith
 
 -- ---- a return, from what was judged
 
-pub refusal : (j : Judged) (n : ℕ) (o : SilberlausFrame) (lines : List ℤ) (bits : List ℕ) → j ≡ refused n 0 → 1 ≤ n → frameGiven o ≡ refusedWith n 0
-    → (frameGiven o ≡ givenOf j)
-    × ((lines ≡ spectrumOf j lines) × ((bits ≡ residualAfter j bits) × Bounded (o .number) (o .cause) (o .symbols) (o .«last_line») lines))
+-- the answer, both buffers and the bounds of a judgement
+abbrev Answered : SilberlausFrame → Judged → List ℤ → List ℤ → List ℕ → List ℕ → Type 0
+Answered o j lines lines′ bits bits′ =
+    Answers (frameGiven o) j lines lines′ bits bits′ × Bounded (o .number) (o .cause) (o .symbols) (o .«last_line») lines′
+
+pub refusal :
+    (j : Judged) (n : ℕ) (o : SilberlausFrame) (lines : List ℤ) (bits : List ℕ) → j ≡ refused n 0 → 1 ≤ n
+    → frameGiven o ≡ refusedWith n 0 → Answered o j lines lines bits bits
 unfolding givenOf
 refusal j n o lines bits e h g =
-    rw e (g, (refl, (refl, rw (number-is g, cause-is g) (bounded-at n h (o .symbols) (o .«last_line») lines))))
+    let b : Bounded (o .number) (o .cause) (o .symbols) (o .«last_line») lines =
+    rw (number-is g, cause-is g) (bounded-at n h (o .symbols) (o .«last_line») lines) in
+    rw e (record { given = g; lines = refl; bits = refl }, b)
 
-pub reading : (j k : Judged) (r : Reading) (o : SilberlausFrame) (lines lines′ : List ℤ) (bits bits′ : List ℕ) → k ≡ j
-    → frameGiven o ≡ told r → told r ≡ givenOf k → lines′ ≡ spectrumOf k lines → bits′ ≡ residualAfter k bits → sound.Bounded (r .answer) lines′
-    → (frameGiven o ≡ givenOf j)
-    × ((lines′ ≡ spectrumOf j lines) × ((bits′ ≡ residualAfter j bits) × Bounded (o .number) (o .cause) (o .symbols) (o .«last_line») lines′))
-reading j k r o lines lines′ bits bits′ e g t x y b =
-    rw (← e) (g ∙ t, (x, (y, bounded (r .answer) (r .«tns_coefficients_0») (r .«tns_coefficients_1») o lines′ g b)))
+pub reading :
+    (j k : Judged) (r : Reading) (o : SilberlausFrame) (lines lines′ : List ℤ) (bits bits′ : List ℕ) → k ≡ j → frameGiven o ≡ told r
+    → Answers (told r) k lines lines′ bits bits′ → sound.Bounded (r .answer) lines′ → Answered o j lines lines′ bits bits′
+reading j k r o lines lines′ bits bits′ e g a b =
+    let c = bounded (r .answer) (r .«tns_coefficients_0») (r .«tns_coefficients_1») o lines′ g b in
+    rw (← e) (record { given = g ∙ a .given; lines = a .lines; bits = a .bits }, c)
 
 -- ---- the rate and the two buffers
 
-other-spectrum-in : (o : Rate) (s : List ℕ) (place x b : ℕ) → (linesAt o ≡ 0 → ⊥) → (x ≡ linesAt o → ⊥) → judgedIn o s place x b ≡ refused 2 0
+other-spectrum-in : (o : Rate) (s : List ℕ) (place x b : ℕ) → (linesAt o ≡ 0 → ⊥) → (x ≡ linesAt o → ⊥)
+    → judgedIn o s place x b ≡ refused 2 0
 other-spectrum-in rate.Unknown s place x b h k = absurd (h refl)
 other-spectrum-in (rate.Known r) s place x b h k = simp (ne-eqb x (r .lines) k)
 
-other-residual-in : (o : Rate) (s : List ℕ) (place x b : ℕ) → (linesAt o ≡ 0 → ⊥) → (b ≡ linesAt o → ⊥) → judgedIn o s place x b ≡ refused 2 0
+other-residual-in : (o : Rate) (s : List ℕ) (place x b : ℕ) → (linesAt o ≡ 0 → ⊥) → (b ≡ linesAt o → ⊥)
+    → judgedIn o s place x b ≡ refused 2 0
 other-residual-in rate.Unknown s place x b h k = absurd (h refl)
 other-residual-in (rate.Known r) s place x b h k = simp (ne-eqb b (r .lines) k, and-false)
 
 -- ---- the record and the place
 
-no-place : (s : List ℕ) (place : ℕ) → Bytes s → (r : Setting) (o : Option (List RecordEntry)) → readRecord s ≡ o → length (part.frameOf o place) ≡ 0
+no-place : (s : List ℕ) (place : ℕ) → Bytes s → (r : Setting) (o : Option (List RecordEntry)) → readRecord s ≡ o
+    → length (part.frameOf o place) ≡ 0
     → judgedPlace r o place ≡ refused (entryOf o place .number) 0
 no-place s place b r none q z = refl
 no-place s place b r (some es) q z = go (ltb place (length es)) refl
@@ -93,7 +104,8 @@ no-place s place b r (some es) q z = go (ltb place (length es)) refl
     go false t = refl
 
 at-place : (s : List ℕ) (place : ℕ) → Bytes s → (r : Setting) (x : ℕ) → x ≡ r .lines → (y : ℕ) → y ≡ r .lines
-    → (o : Option (List RecordEntry)) → readRecord s ≡ o → (length (part.frameOf o place) ≡ 0 → ⊥) → judgedAt (rate.Known r) (part.frameOf o place) x y ≡ judgedPlace r o place
+    → (o : Option (List RecordEntry)) → readRecord s ≡ o → (length (part.frameOf o place) ≡ 0 → ⊥)
+    → judgedAt (rate.Known r) (part.frameOf o place) x y ≡ judgedPlace r o place
 at-place s place b r x e y f none q z = absurd (z refl)
 at-place s place b r x e y f (some es) q z = go (ltb place (length es)) refl
   where
@@ -108,7 +120,8 @@ at-place s place b r x e y f (some es) q z = go (ltb place (length es)) refl
 empty-in : (o : Rate) (s : List ℕ) (place x b : ℕ) → Bytes s → (linesAt o ≡ 0 → ⊥) → x ≡ linesAt o → b ≡ linesAt o
     → length (part.frameOf (readRecord s) place) ≡ 0 → judgedIn o s place x b ≡ refused (entryOf (readRecord s) place .number) 0
 empty-in rate.Unknown s place x b i h e f z = absurd (h refl)
-empty-in (rate.Known r) s place x b i h e f z = simp (eq-eqb x (r .lines) e, eq-eqb b (r .lines) f) (no-place s place i r (readRecord s) refl z)
+empty-in (rate.Known r) s place x b i h e f z = simp (eq-eqb x (r .lines) e, eq-eqb b (r .lines) f)
+    (no-place s place i r (readRecord s) refl z)
 
 part-in : (o : Rate) (s : List ℕ) (place x b : ℕ) → Bytes s → (linesAt o ≡ 0 → ⊥) → x ≡ linesAt o → b ≡ linesAt o
     → (length (part.frameOf (readRecord s) place) ≡ 0 → ⊥) → judgedAt o (part.frameOf (readRecord s) place) x b ≡ judgedIn o s place x b
@@ -131,7 +144,8 @@ module _ (khz : ℕ) (s : List ℕ) (place x b : ℕ) where
   unfolding lineCount judgedEntry
   other-residual h k = other-residual-in (rateOf khz) s place x b h k
 
-  pub no-frame : Bytes s → (lineCount khz ≡ 0 → ⊥) → x ≡ lineCount khz → b ≡ lineCount khz → (p : List ℕ) → p ≡ framePart s place → length p ≡ 0
+  pub no-frame : Bytes s → (lineCount khz ≡ 0 → ⊥) → x ≡ lineCount khz → b ≡ lineCount khz → (p : List ℕ) → p ≡ framePart s place
+      → length p ≡ 0
       → (judgedEntry khz s place x b ≡ refused (missing s place) 0) × (1 ≤ missing s place)
   unfolding lineCount judgedEntry entryAnswer framePart
   no-frame i h e f p q z =
@@ -139,7 +153,8 @@ module _ (khz : ℕ) (s : List ℕ) (place x b : ℕ) where
       (empty-in (rateOf khz) s place x b i h e f y, frame-missing s place i y)
 
   -- an entry's frame is read as it stands in the record
-  pub part-read : Bytes s → (lineCount khz ≡ 0 → ⊥) → x ≡ lineCount khz → b ≡ lineCount khz → (p : List ℕ) → p ≡ framePart s place → (length p ≡ 0 → ⊥)
+  pub part-read : Bytes s → (lineCount khz ≡ 0 → ⊥) → x ≡ lineCount khz → b ≡ lineCount khz → (p : List ℕ) → p ≡ framePart s place
+      → (length p ≡ 0 → ⊥)
       → judgedOf khz p x b ≡ judgedEntry khz s place x b
   unfolding lineCount judgedEntry judgedOf framePart
   part-read i h e f p q z =

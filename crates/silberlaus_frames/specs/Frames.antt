@@ -30,7 +30,15 @@ frameGiven r = given (r .number) (r .cause)
       side = record {
         head = record { bandwidth = r .bandwidth; «last_line» = r .«last_line»; «lsb_mode» = r .«lsb_mode»; gain = r .gain };
         flags = record { «tns_0» = r .«tns_flag_0»; «tns_1» = r .«tns_flag_1»; «pitch_present» = r .«pitch_present» };
-        shape = record { low = r .«shape_low»; high = r .«shape_high»; mode = r .«shape_mode»; gain = r .«shape_gain»; sign = r .«shape_sign»; joint = r .«shape_joint» };
+        shape = record {
+          low = r .«shape_low»;
+          high = r .«shape_high»;
+          mode = r .«shape_mode»;
+          gain = r .«shape_gain»;
+          sign = r
+              .«shape_sign»;
+          joint = r .«shape_joint»;
+        };
         tail = record { «filter_flag» = r .«filter_flag»; «pitch_index» = r .«pitch_index»; «noise_level» = r .«noise_level» };
       };
       «tns_order_0» = r .«tns_order_0»;

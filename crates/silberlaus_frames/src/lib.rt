@@ -4,7 +4,7 @@
 ghost use mathlib.Core.Path.{_≡_};
 ghost use lib.ListN.{length};
 ghost use Rattle.frame.specs.Frame.{judgedOf};
-ghost use Rattle.frame_arithmetic.specs.Answers.{noFields, refusedWith, givenOf, spectrumOf, residualAfter, told};
+ghost use Rattle.frame_arithmetic.specs.Answers.{noFields, refusedWith, Answers, told};
 ghost use Rattle.silberlaus_frames.specs.Frames.{given, frameGiven, judgedEntry, missing, Bounded};
 use frame::Answer;
 use frame::Fields;
@@ -146,9 +146,11 @@ pub fn read_frame(
     spectrum: &mut [i32],
     residual: &mut [u8],
 ) -> SilberlausFrame
-    ensures { λ r. ⌜ frameGiven r ≡ givenOf (judgedOf khz (now (bytes .entry)) (length (now (spectrum .entry))) (length (now (residual .entry)))) ⌝ }
-    ensures { λ r. ⌜ now (spectrum .exit) ≡ spectrumOf (judgedOf khz (now (bytes .entry)) (length (now (spectrum .entry))) (length (now (residual .entry)))) (now (spectrum .entry)) ⌝ }
-    ensures { λ r. ⌜ now (residual .exit) ≡ residualAfter (judgedOf khz (now (bytes .entry)) (length (now (spectrum .entry))) (length (now (residual .entry)))) (now (residual .entry)) ⌝ }
+    ensures { λ r. ⌜
+        Answers (frameGiven r)
+        (judgedOf khz (now (bytes .entry)) (length (now (spectrum .entry))) (length (now (residual .entry))))
+        (now (spectrum .entry)) (now (spectrum .exit)) (now (residual .entry)) (now (residual .exit))
+        ⌝ }
     ensures { λ r. ⌜ Bounded (r .number) (r .cause) (r .symbols) (r .«last_line») (now (spectrum .exit)) ⌝ }
 {
     numbered(frame::read(khz, bytes, spectrum, residual))
@@ -169,9 +171,11 @@ pub fn read_entry(
     spectrum: &mut [i32],
     residual: &mut [u8],
 ) -> SilberlausFrame
-    ensures { λ r. ⌜ frameGiven r ≡ givenOf (judgedEntry khz (now (bytes .entry)) place (length (now (spectrum .entry))) (length (now (residual .entry)))) ⌝ }
-    ensures { λ r. ⌜ now (spectrum .exit) ≡ spectrumOf (judgedEntry khz (now (bytes .entry)) place (length (now (spectrum .entry))) (length (now (residual .entry)))) (now (spectrum .entry)) ⌝ }
-    ensures { λ r. ⌜ now (residual .exit) ≡ residualAfter (judgedEntry khz (now (bytes .entry)) place (length (now (spectrum .entry))) (length (now (residual .entry)))) (now (residual .entry)) ⌝ }
+    ensures { λ r. ⌜
+        Answers (frameGiven r)
+        (judgedEntry khz (now (bytes .entry)) place (length (now (spectrum .entry))) (length (now (residual .entry))))
+        (now (spectrum .entry)) (now (spectrum .exit)) (now (residual .entry)) (now (residual .exit))
+        ⌝ }
     ensures { λ r. ⌜ Bounded (r .number) (r .cause) (r .symbols) (r .«last_line») (now (spectrum .exit)) ⌝ }
 {
     let lines = frame::line_count(khz);

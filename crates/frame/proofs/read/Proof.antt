@@ -29,7 +29,8 @@ returns-2 c =
     let r = c .before .before .before .read-sized in
     let b = c .before .before .before .before .before .before .before .before .before .before .before in
     let z = b .before .before .before .args in
-    let e = sym (b .rate-setting .ensures .0) ∙ c .before .before .before .before .before .before .before .before .before .known .given .1 in
+    let k = c .before .before .before .before .before .before .before .before .before .known in
+    let e = sym (b .rate-setting .ensures .0) ∙ k .given .1 in
     let j = judged-known (z .khz) (now (z .frame)) _ _ _ e (omega arith) (omega arith) in
     answers-by (r .result) _ _ _ _ _ _ j (r .ensures)
 

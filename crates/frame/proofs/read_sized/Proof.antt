@@ -25,17 +25,17 @@ returns-3 c =
     let b = c .before .before .before .before in
     let z = b .before .before .before .before .before .args in
     let r = b .read-side in
-    let k = c .before .side-cause .ensures in
-    let e = side-refused (now (z .frame)) (z .r) (r .result) _ _ (r .ensures .0) (c .before .before .enum-told .given .1) k (r .ensures .1) in
+    let e = side-refused (now (z .frame)) (z .r) (r .result) _ (r .ensures .0) (c .before .before .k .given .1) (r .ensures .1) in
     let j = judged-read (z .r) (now (z .frame)) _ _ (b .before .before .if1 .left) (b .before .if2 .left) in
-    answers-by (c .refused3 .result) _ _ _ _ _ _ j (answers-cause (c .refused3 .result) _ _ _ _ _ _ (c .refused3 .ensures) (e .0) refl refl (e .1))
+    let a = answers-cause (c .refused3 .result) _ _ _ _ _ _ (c .refused3 .ensures) (e .0) refl refl (e .1) in
+    answers-by (c .refused3 .result) _ _ _ _ _ _ j a
 
 read-arithmetic-requires : tie.Need-read-arithmetic-requires
 read-arithmetic-requires c κs =
     let b = c .before .before .before .before .before in
     let z = b .before .before .before .before .before .pre in
-    let g = rw (c .before .before .before .got .given .1) at (b .read-side .ensures .1) in
-    (z .0, z .1, g, b .before .before .if1 .left, b .before .if2 .left)
+    let g = rw (c .before .before .before .v .given .1) at (b .read-side .ensures .1) in
+    (z .0, (z .1, (g, record { spectrum = b .before .before .if1 .left; residual = b .before .if2 .left })))
 
 returns-4 : tie.Need-returns-4
 returns-4 c =
@@ -43,7 +43,7 @@ returns-4 c =
     let b = c .before .before .before .before .before .before .before .before .before in
     let z = b .before .before .before .before .before .args in
     let j = judged-read (z .r) (now (z .frame)) _ _ (b .before .before .if1 .left) (b .before .if2 .left) in
-    let f = sym (b .read-side .ensures .0) ∙ ap sideGiven (c .before .before .before .before .before .before .before .got .given .1) in
+    let f = sym (b .read-side .ensures .0) ∙ ap sideGiven (c .before .before .before .before .before .before .before .v .given .1) in
     answers-by (r .result) _ _ _ _ _ _ (j ∙ ap judgedRead (frame-rest (now (z .frame)) (z .r) _ _ f)) (r .ensures)
 
 pub read-sized-spec : {M : Type 1} → statement M
@@ -51,5 +51,5 @@ read-sized-spec =
     tie.close
     (tie.spec
     (λ c κs. search needs) returns (λ c κs. search needs) returns-2 (λ c κs. search needs) (λ c. search needs)
-    (λ c. search needs) (λ c κs. search needs) (λ c κs. search needs) returns-3 read-arithmetic-requires
-    (λ c. search needs) (λ c. search needs) returns-4)
+    (λ c κs. search needs) (λ c. search needs) read-arithmetic-requires returns-3 (λ c. search needs)
+    (λ c. search needs) returns-4)

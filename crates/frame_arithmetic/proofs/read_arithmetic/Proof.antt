@@ -1,4 +1,4 @@
--- `frame::read_arithmetic` meets its contract. Assumes nothing.
+-- `frame_arithmetic::read_arithmetic` meets its contract. Assumes nothing.
 use borrow.Author.Needs.{needs}
 use Rattle.frame_arithmetic.proofs.read_arithmetic.Statement.{statement}
 use Rattle.frame_arithmetic.proofs.read_arithmetic.Tie as tie
@@ -7,12 +7,14 @@ use native.Mathlib.Omega.{arith}
 use denote.Ref.{now}
 use Rattle.frame_bits.specs.Read.{value}
 use Rattle.frame_tns.specs.Tns.{Filter, filterGiven}
+use Rattle.frame_tns.specs.Sound.{TnsTables}
 use Rattle.frame_spectral.specs.Spectral.{spectralGiven}
 use Rattle.frame_coder.specs.declared.Coder.{Coder}
 use Rattle.frame_tns.specs.declared.FilterRead.{FilterRead}
 use Rattle.frame_spectral.specs.declared.SpectralRead.{SpectralRead}
-use Rattle.frame_arithmetic.proofs.ArithmeticSteps.{tns-tables, start-taken, firstAt, secondAt, first-at, second-at, arithmetic-value, answers-cause, answers-value}
-use Rattle.frame_arithmetic.proofs.ArithmeticSteps.{first-refused, second-refused, third-refused}
+use Rattle.frame_arithmetic.proofs.ArithmeticSteps.{tns-tables, start-taken, firstAt, secondAt, first-at, second-at}
+use Rattle.frame_arithmetic.proofs.ArithmeticSteps.{first-refused, second-refused, third-refused, arithmetic-value}
+use Rattle.frame_arithmetic.proofs.ArithmeticSteps.{answers-cause, answers-value}
 
 -- the places that several needs look back to
 abbrev entry : tie.After-start → tie.Start
@@ -21,31 +23,33 @@ entry s = s .before .before .before .before .before .before .before
 abbrev started : tie.After-filter → tie.After-start
 started f = f .before .before .before .before
 
-abbrev first : tie.After-known-told → tie.After-filter
+abbrev first : tie.After-known-told2 → tie.After-filter
 first b = b .before .before .before .before
 
-abbrev before-second : tie.After-filter2 → tie.After-known-told
+abbrev before-second : tie.After-filter2 → tie.After-known-told2
 before-second g = g .before .before .before .before
 
-abbrev second : tie.After-known-told2 → tie.After-filter2
+abbrev second : tie.After-known-told4 → tie.After-filter2
 second b = b .before .before .before .before
+
+filter-tables : (s : tie.After-start)
+    → TnsTables (s .before .before .before .before .tns-order .result) (s .before .before .before .tns-coefficients .result)
+filter-tables s = tns-tables _ _ (s .before .before .before .before .tns-order .ensures)
+    (s .before .before .before .tns-coefficients .ensures)
 
 filter-requires : tie.Need-filter-requires
 filter-requires c κs =
     let s = c .before .before .before in
     let z = entry s in
     let t = start-taken (now (z .args .frame)) (s .start .result) (s .start .ensures .0) in (
-      z .pre .1,
-      tns-tables _ _ (s .before .before .before .before .tns-order .ensures) (s .before .before .before .tns-coefficients .ensures),
-      s .before .before .tns-weighting .ensures .1,
-      refl,
-      s .start .ensures .1,
-      omega (arith, t),
+      record { sized = z .pre .1 .0; sound = s .start .ensures .1; taken = omega (arith, t) },
+      (filter-tables s, (s .before .before .tns-weighting .ensures .1, refl)),
     )
 
 -- the first filter, as it was read
 first-found : (f : tie.After-filter)
-    → firstAt (now (entry (started f) .args .frame)) (entry (started f) .args .v) ≡ filterGiven (f .filter .result) (f .filter .last .1 .1 .1 .1 .1 .0)
+    → firstAt (now (entry (started f) .args .frame)) (entry (started f) .args .v)
+    ≡ filterGiven (f .filter .result) (f .filter .last .1 .1 .1 .1 .1 .0)
 first-found f =
     let s = started f in
     let z = entry s .args in
@@ -54,22 +58,23 @@ first-found f =
     first-at (now (z .frame)) (z .v) _ _ _ _ _ o k (s .before .before .tns-weighting .ensures .0)
     (s .start .ensures .0) (f .filter .ensures .0)
 
-abbrev filter-1 : tie.After-known-told → Filter
-filter-1 b = record { order = b .before .got .given .0 .0; coefficients = first b .filter .last .1 .1 .1 .1 .1 .0 }
+abbrev filter-1 : tie.After-known-told2 → Filter
+filter-1 b = record { order = b .before .m .given .0 .0; coefficients = first b .filter .last .1 .1 .1 .1 .1 .0 }
 
-abbrev coder-1 : tie.After-known-told → Coder
-coder-1 b = b .before .got .given .0 .1 .0
+abbrev coder-1 : tie.After-known-told2 → Coder
+coder-1 b = b .before .m .given .0 .1 .0
 
-first-taken : (b : tie.After-known-told)
+first-taken : (b : tie.After-known-told2)
     → firstAt (now (entry (started (first b)) .args .frame)) (entry (started (first b)) .args .v) ≡ value (filter-1 b) (coder-1 b)
-first-taken b = first-found (first b) ∙ ap (λ (g : FilterRead). filterGiven g (first b .filter .last .1 .1 .1 .1 .1 .0)) (b .before .got .given .1)
+first-taken b = first-found (first b) ∙ ap (λ (g : FilterRead). filterGiven g (first b .filter .last .1 .1 .1 .1 .1 .0))
+    (b .before .m .given .1)
 
 returns : tie.Need-returns
 returns c =
     let f = c .before .before .before .before .before in
     let z = entry (started f) .args in
-    let i = c .before .before .enum-told .given .1 in
-    let e = first-refused _ (z .r) _ (z .p) _ (f .filter .result) _ _ _ (first-found f) i (c .before .filter-cause .ensures) (f .filter .ensures .1) in
+    let i = c .before .before .k .given .1 in
+    let e = first-refused _ (z .r) _ (z .p) _ (f .filter .result) _ _ (first-found f) i (f .filter .ensures .1) in
     answers-cause (c .refused .result) _ _ _ _ _ _ (c .refused .ensures) (e .0) refl refl (e .1)
 
 filter-requires-2 : tie.Need-filter-requires-2
@@ -78,13 +83,9 @@ filter-requires-2 c κs =
     let s = started (first b) in
     let z = entry s in
     let t = start-taken (now (z .args .frame)) (s .start .result) (s .start .ensures .0) in
-    let g = rw (b .before .got .given .1) at (b .before .before .before .before .filter .ensures .1) in (
-      z .pre .1,
-      tns-tables _ _ (s .before .before .before .before .tns-order .ensures) (s .before .before .before .tns-coefficients .ensures),
-      s .before .before .tns-weighting .ensures .1,
-      refl,
-      g .2,
-      omega (arith, t, g .1),
+    let g = rw (b .before .m .given .1) at (b .before .before .before .before .filter .ensures .1) in (
+      record { sized = z .pre .1 .0; sound = g .2; taken = omega (arith, t, g .1) },
+      (filter-tables s, (s .before .before .tns-weighting .ensures .1, refl)),
     )
 
 -- the second filter, as it was read
@@ -98,21 +99,21 @@ second-found g =
     second-at (now (z .frame)) (z .v) _ _ _ _ _ o k (s .before .before .tns-weighting .ensures .0)
     (g .filter2 .ensures .0)
 
-abbrev filter-2 : tie.After-known-told2 → Filter
-filter-2 b = record { order = b .before .got2 .given .0 .0; coefficients = second b .filter2 .last .1 .1 .1 .1 .1 .0 }
+abbrev filter-2 : tie.After-known-told4 → Filter
+filter-2 b = record { order = b .before .n .given .0 .0; coefficients = second b .filter2 .last .1 .1 .1 .1 .1 .0 }
 
-second-taken : (b : tie.After-known-told2) → let z = entry (started (first (before-second (second b)))) .args in
-    secondAt (now (z .frame)) (z .v) (coder-1 (before-second (second b))) ≡ value (filter-2 b) (b .before .got2 .given .0 .1 .0)
-second-taken b = second-found (second b) ∙ ap (λ (g : FilterRead). filterGiven g (second b .filter2 .last .1 .1 .1 .1 .1 .0)) (b .before .got2 .given .1)
+second-taken : (b : tie.After-known-told4) → let z = entry (started (first (before-second (second b)))) .args in
+    secondAt (now (z .frame)) (z .v) (coder-1 (before-second (second b))) ≡ value (filter-2 b) (b .before .n .given .0 .1 .0)
+second-taken b = second-found (second b) ∙ ap (λ (g : FilterRead). filterGiven g (second b .filter2 .last .1 .1 .1 .1 .1 .0))
+    (b .before .n .given .1)
 
 returns-2 : tie.Need-returns-2
 returns-2 c =
     let g = c .before .before .before .before .before in
     let b = before-second g in
     let z = entry (started (first b)) .args in
-    let i = c .before .before .enum-told2 .given .1 in
-    let k = c .before .filter-cause2 .ensures in
-    let e = second-refused _ (z .r) _ (z .p) _ _ (g .filter2 .result) _ _ _ (first-taken b) (second-found g) i k (g .filter2 .ensures .1) in
+    let i = c .before .before .k2 .given .1 in
+    let e = second-refused _ (z .r) _ (z .p) _ _ (g .filter2 .result) _ _ (first-taken b) (second-found g) i (g .filter2 .ensures .1) in
     answers-cause (c .refused2 .result) _ _ _ _ _ _ (c .refused2 .ensures) (e .0) refl refl (e .1)
 
 read-spectral-requires : tie.Need-read-spectral-requires
@@ -122,9 +123,15 @@ read-spectral-requires c κs =
     let s = started (first d) in
     let z = entry s in
     let t = start-taken (now (z .args .frame)) (s .start .result) (s .start .ensures .0) in
-    let g = rw (d .before .got .given .1) at (d .before .before .before .before .filter .ensures .1) in
-    let h = rw (b .before .got2 .given .1) at (b .before .before .before .before .filter2 .ensures .1) in
-    (z .pre .0, z .pre .1, z .pre .2 .2, z .pre .2 .1, z .pre .2 .3, h .2, omega (arith, t, g .1, h .1), z .pre .2 .6, z .pre .3, z .pre .4)
+    let g = rw (d .before .m .given .1) at (d .before .before .before .before .filter .ensures .1) in
+    let h = rw (b .before .n .given .1) at (b .before .before .before .before .filter2 .ensures .1) in
+    let v = z .pre .1 .1 .0 in (
+      z .pre .0,
+      (
+        v .head,
+        (record { sized = z .pre .1 .0; sound = h .2; taken = omega (arith, t, g .1, h .1) }, (v .side, z .pre .1 .1 .1)),
+      ),
+    )
 
 returns-3 : tie.Need-returns-3
 returns-3 c =
@@ -133,9 +140,9 @@ returns-3 c =
     let b = n .before .before .before .before .before .before in
     let d = before-second (second b) in
     let z = entry (started (first d)) .args in
-    let i = c .before .before .enum-told3 .given .1 in
-    let q = c .before .spectral-cause .ensures in
-    let e = third-refused _ (z .r) _ (z .p) _ _ _ _ (r .result) _ _ _ _ _ (first-taken d) (second-taken b) (r .ensures .0) i q (r .ensures .1 .1) in
+    let i = c .before .before .k3 .given .1 in
+    let e = third-refused _ (z .r) _ (z .p) _ _ _ _ (r .result) _ _ _ _ (first-taken d) (second-taken b) (r .ensures .0) i
+    (r .ensures .1 .1) in
     let k = rw i at (r .ensures .1 .0) in
     answers-cause (c .refused3 .result) _ _ _ _ _ _ (c .refused3 .ensures) (e .0) (k .0) (k .1) (e .1)
 
@@ -146,7 +153,7 @@ returns-4 c =
     let b = n .before .before .before .before .before .before in
     let d = before-second (second b) in
     let z = entry (started (first d)) .args in
-    let i = c .before .got3 .given .1 in
+    let i = c .before .symbols .given .1 in
     let l = r .last .1 .1 .1 .1 .1 .0 in
     let m = r .last .1 .1 .1 .1 .1 .1 .0 in
     let g = rw i at (r .ensures .1 .1) in
@@ -160,8 +167,7 @@ read-arithmetic-spec =
     (tie.spec
     (λ c κs. search needs) (λ c κs. search needs) (λ c κs. search needs) (λ c κs. search needs)
     (λ c. search needs) (λ c. search needs) (λ c. search needs) filter-requires (λ c. search needs)
-    (λ c. search needs) (λ c κs. search needs) (λ c κs. search needs) returns (λ c. search needs)
-    (λ c. search needs) (λ c. search needs) filter-requires-2 (λ c. search needs) (λ c. search needs)
-    (λ c κs. search needs) (λ c κs. search needs) returns-2 read-spectral-requires (λ c. search needs)
-    (λ c. search needs) (λ c κs. search needs) (λ c κs. search needs) (λ c. search needs) (λ c. search needs)
-    returns-3 (λ c. search needs) (λ c. search needs) returns-4)
+    (λ c κs. search needs) (λ c. search needs) (λ c. search needs) (λ c. search needs) (λ c. search needs)
+    filter-requires-2 (λ c. search needs) (λ c κs. search needs) (λ c. search needs) read-spectral-requires
+    (λ c. search needs) (λ c κs. search needs) (λ c. search needs) returns returns-2 (λ c. search needs)
+    (λ c. search needs) returns-3 (λ c. search needs) (λ c. search needs) returns-4)

@@ -13,7 +13,7 @@ returns c =
     (rw (b .0) (sym (bit-inside (now (a .s)) (a .p) (c .before .if1 .taken))), (b .1, refl, c .before .if1 .taken))
 
 returns-2 : tie.Need-returns-2
-returns-2 c = let a = c .before .before .args in (sym (bit-outside (now (a .s)) (a .p) (c .if1 .left)), refl)
+returns-2 c = let a = c .before .before .args in (sym (bit-outside (now (a .s)) (a .p) (c .if1 .left)), tt)
 
 pub read-bit-spec : {M : Type 1} → statement M
 read-bit-spec =

@@ -12,13 +12,13 @@ returns c =
     (sym (symbol-high (a .s .now) (a .cum .now) (a .row) (a .last) (a .c) (c .if1 .taken)), (omega arith, omega arith))
 
 sub-t12 : tie.Need-sub-t12
-sub-t12 c = scaled-rise (c .before .before .before .before .before .before .pre .1) (c .before .before .find .ensures .1)
+sub-t12 c = scaled-rise (c .before .before .before .before .before .before .pre .1 .row) (c .before .before .find .ensures .1)
 
 refill-requires : tie.Need-refill-requires
 refill-requires c κs =
     let f = c .before .before .before in
     let h = f .before .before .before .before in
-    (h .pre .0, narrow (f .find .result) (h .pre .1) (h .pre .4) (f .find .ensures .1))
+    (h .pre .0 .sized, narrow (f .find .result) (h .pre .1 .row) (h .pre .0 .sound) (f .find .ensures .1))
 
 returns-2 : tie.Need-returns-2
 returns-2 c =
@@ -26,7 +26,8 @@ returns-2 c =
     let h = f .before .before .before .before in
     let a = h .args in
     let g = f .find .ensures in
-    let e = symbol-taken (a .s .now) (a .cum .now) (a .row) (a .last) (a .c .low) (f .find .result) (a .c) (f .before .if1 .left) (g .0) (g .1) in (
+    let e = symbol-taken (a .s .now) (a .cum .now) (a .row) (a .last) (a .c .low) (f .find .result) (a .c) (f .before .if1 .left) (g .0)
+    (g .1) in (
       c .refill .ensures .0 ∙ sym e,
       good-symbol (a .s .now) (a .last) (f .find .result .symbol) (a .c) _ (c .refill .result) (g .1 .symbol) refl (c .refill .ensures .1),
     )

@@ -1,4 +1,5 @@
--- `frame_coder::refill` meets its contract. The loop keeps what is still to be taken equal to the whole; two bytes are enough. Assumes nothing.
+-- `frame_coder::refill` meets its contract. The loop keeps what is still to be taken equal to the whole; two bytes are enough. Assumes
+-- nothing.
 use mathlib.Core.Path.{_≡_, refl, sym, _∙_}
 use Prim.Native.Nat.{_+_, _-_, _*_, _≤_, _<_}
 use native.Mathlib.Omega.{arith}
@@ -20,7 +21,7 @@ abbrev μ-loop : tie.MeasureT-loop
 μ-loop s v low₀ range₀ at₀ taken n₀ low range at n = n
 
 loop-holds : tie.Need-loop-holds Inv-loop μ-loop
-loop-holds c = let g = c .before .pre .1 in (g .low, g .range, g .at, g .end, omega arith, g .some, omega arith, omega arith, refl)
+loop-holds c = let g = c .before .pre .1 in (g .low, g .range, g .at, g .end, omega arith, g .wide, omega arith, omega arith, refl)
 
 returns : tie.Need-returns Inv-loop μ-loop
 returns c =

@@ -2,118 +2,94 @@
 use borrow.Author.Needs.{needs}
 use Rattle.frame_pair.proofs.read_pair.Statement.{statement}
 use Rattle.frame_pair.proofs.read_pair.Tie as tie
-use mathlib.Core.Path.{_≡_, sym, ap, _∙_}
+use mathlib.Core.Path.{_≡_, sym, _∙_}
 use Prim.Native.Nat.{_+_, _/_, _%_, _≤_, _<_}
 use native.Mathlib.Omega.{arith}
 use denote.Ref.{now}
 use Rattle.coder_tables.specs.Layout.{byLevel}
-use Rattle.frame_bits.specs.Read.{value, cause}
+use Rattle.frame_bits.specs.Read.{value}
 use Rattle.frame_pair.specs.Pair.{lastOf, signOf, signedOf, pairOf}
 use Rattle.frame_coder.specs.Sound.{Sound}
 use Rattle.frame_pair.specs.Sound.{Built}
 use Rattle.frame_pair.proofs.Escaping.{room, pair-stop, pair-signed, signed-first, signed-second, signed-crossed, signed-read}
 
-returns : tie.Need-returns
-returns c =
-    let e = c .before .enum-told .given .1 in
+returns-4 : tie.Need-returns-4
+returns-4 c =
+    let e = c .before .k .given .1 in
     let d = c .before .before .before in
-    let a = d .before .before .before .before .args in
-    let k = rw e at (c .last-cause .ensures) in
-    let f = rw e at (d .read-last .ensures .0) in
-    let g = rw e at (d .read-last .ensures .1) in (
-      ap cause k ∙ sym (pair-stop (now (a .s)) (byLevel (now (a .look))) (now (a .cum)) (a .lsb) (a .base) (a .context) (a .c) (a .p) _ (sym f)),
-      (omega (arith, k, g .0), omega (arith, k, g .1)),
-    )
+    (sym (pair-stop _ _ _ _ _ _ _ _ _ (sym (rw e at (d .read-last .ensures .0)))), rw e at (d .read-last .ensures .1))
 
-abbrev begin : tie.After-known-told → tie.Start
+abbrev begin : tie.After-known-told2 → tie.Start
 begin k = k .before .before .before .before .before .before .before
 
 -- the last symbol, and what is known of it
-last : (k : tie.After-known-told) → let a = begin k .args in let v = k .before .got .given .0 in
+last : (k : tie.After-known-told2) → let a = begin k .args in let v = k .before .l .given .0 in
     lastOf (now (a .s)) (byLevel (now (a .look))) (now (a .cum)) (a .lsb) (a .base) 14 0 0 0 (a .c) (a .p)
     ≡ value (v .0) (record { coder = v .1 .0; side = v .1 .1 .0 })
-last k = sym (rw (k .before .got .given .1) at (k .before .before .before .read-last .ensures .0))
+last k = sym (rw (k .before .l .given .1) at (k .before .before .before .read-last .ensures .0))
 
-good : (k : tie.After-known-told) → let a = begin k .args in let v = k .before .got .given .0 in
+good : (k : tie.After-known-told2) → let a = begin k .args in let v = k .before .l .given .0 in
     (v .0 .symbol < 16) × (v .0 .level ≤ 13) × Built (a .lsb) (v .0 .level) (v .0 .x) × Built (a .lsb) (v .0 .level) (v .0 .y)
     × (v .1 .0 .taken ≤ a .c .taken + 14) × Sound (now (a .s)) (v .1 .0)
-good k = rw (k .before .got .given .1) at (k .before .before .before .read-last .ensures .1)
+good k = rw (k .before .l .given .1) at (k .before .before .before .read-last .ensures .1)
 
 above-requires : tie.Need-above-requires
-above-requires c κs = let g = good c in (g .2 .0, omega arith, g .1)
+above-requires c κs = let g = good c in (g .2 .0, (omega arith, g .1))
 
 above-requires-2 : tie.Need-above-requires-2
-above-requires-2 c κs = let g = good (c .before) in (g .3 .0, omega (arith, g .0), g .1)
+above-requires-2 c κs = let g = good (c .before) in (g .3 .0, (omega (arith, g .0), g .1))
 
 -- the whole pair is what its last symbol leaves
-rest : (b : tie.After-above2) → let k = b .before .before in let a = begin k .args in let v = k .before .got .given .0 in
+rest : (b : tie.After-above2) → let k = b .before .before in let a = begin k .args in let v = k .before .l .given .0 in
     pairOf (now (a .s)) (byLevel (now (a .look))) (now (a .cum)) (a .lsb) (a .base) (a .context) (a .c) (a .p)
     ≡ signedOf (now (a .s)) (a .context) (b .before .above .result) (b .above2 .result) (v .0) (v .1 .0) (v .1 .1 .0)
 rest b =
     let k = b .before .before in
-    let a = begin k .args in
-    pair-signed (now (a .s)) (byLevel (now (a .look))) (now (a .cum)) (a .lsb) (a .base) (a .context) (a .c) (a .p) _ _ _ _ _ (last k)
+    pair-signed _ _ _ _ _ _ _ _ _ _ _ _ _ (last k)
     (b .before .above .ensures) (b .above2 .ensures)
+
+returns : tie.Need-returns
+returns c =
+    let d = c .before .before in
+    let f = rw (c .enum-told .given .1) at (d .read-sign .ensures .0) in
+    (sym (rest (d .before) ∙ signed-first _ _ _ _ _ _ _ _ (sym f)), (omega arith, omega arith))
+
+-- the two signs
+first : (k : tie.After-known-told3)
+    → let b = k .before .before .before .before in let l = b .before .before in let v = k .before .got .given .0 in
+    signOf (now (begin l .args .s)) (b .before .above .result) (l .before .l .given .0 .1 .1 .0) ≡ value (v .0) (v .1 .0)
+first k = sym (rw (k .before .got .given .1) at (k .before .before .before .read-sign .ensures .0))
 
 returns-2 : tie.Need-returns-2
 returns-2 c =
-    let e = c .before .enum-told2 .given .1 in
-    let d = c .before .before .before in
-    let b = d .before in
-    let v = b .before .before .before .got .given .0 in
-    let a = begin (b .before .before) .args in
-    let k = rw e at (c .cause-of .ensures) in
-    let f = rw e at (d .read-sign .ensures .0) in
-    let g = rw e at (d .read-sign .ensures .1) in (
-      ap cause k ∙ sym (rest b ∙ signed-first (now (a .s)) (a .context) (b .before .above .result) (b .above2 .result) (v .0) (v .1 .0) (v .1 .1 .0) _ (sym f)),
-      (omega (arith, k, g), omega (arith, k, g)),
-    )
-
--- the two signs
-first : (k : tie.After-known-told2) → let b = k .before .before .before .before in let l = b .before .before in let v = k .before .got2 .given .0 in
-    signOf (now (begin l .args .s)) (b .before .above .result) (l .before .got .given .0 .1 .1 .0) ≡ value (v .0) (v .1 .0)
-first k = sym (rw (k .before .got2 .given .1) at (k .before .before .before .read-sign .ensures .0))
-
-returns-3 : tie.Need-returns-3
-returns-3 c =
-    let e = c .before .enum-told3 .given .1 in
-    let d = c .before .before .before in
+    let d = c .before .before in
     let b = d .before .before .before .before .before in
-    let v = b .before .before .before .got .given .0 in
-    let a = begin (b .before .before) .args in
-    let k = rw e at (c .cause-of2 .ensures) in
-    let f = rw e at (d .read-sign2 .ensures .0) in
-    let g = rw e at (d .read-sign2 .ensures .1) in (
-      ap cause k ∙ sym (rest b ∙ signed-second (now (a .s)) (a .context) (b .before .above .result) (b .above2 .result) (v .0) (v .1 .0) (v .1 .1 .0) _ _ _
-          (first (d .before)) (sym f)),
-      (omega (arith, k, g), omega (arith, k, g)),
-    )
+    let f = rw (c .enum-told2 .given .1) at (d .read-sign2 .ensures .0) in
+    (sym (rest b ∙ signed-second _ _ _ _ _ _ _ _ _ _ (first (d .before)) (sym f)), (omega arith, omega arith))
 
-abbrev values-at : tie.After-known-told3 → tie.After-above2
+abbrev values-at : tie.After-known-told4 → tie.After-above2
 values-at k = k .before .before .before .before .before .before .before .before
 
-second : (k : tie.After-known-told3) → let b = values-at k in let v = k .before .got3 .given .0 in
-    signOf (now (begin (b .before .before) .args .s)) (b .above2 .result) (k .before .before .before .before .before .got2 .given .0 .1 .0)
+second : (k : tie.After-known-told4) → let b = values-at k in let v = k .before .got2 .given .0 in
+    signOf (now (begin (b .before .before) .args .s)) (b .above2 .result) (k .before .before .before .before .before .got .given .0 .1 .0)
     ≡ value (v .0) (v .1 .0)
-second k = sym (rw (k .before .got3 .given .1) at (k .before .before .before .read-sign2 .ensures .0))
+second k = sym (rw (k .before .got2 .given .1) at (k .before .before .before .read-sign2 .ensures .0))
 
 add-if1 : tie.Need-add-if1
-add-if1 c = let h = begin (values-at c .before .before) .pre .0 in record { fits = omega (arith, h .most) }
+add-if1 c = let h = begin (values-at c .before .before) .pre .0 .sized in record { fits = omega (arith, h .most) }
 
 add-if1-2 : tie.Need-add-if1-2
 add-if1-2 c =
     let l = values-at c .before .before in
-    let h = begin l .pre .0 in
+    let h = begin l .pre .0 .sized in
     let g = good l .5 in
-    record { fits = omega (arith, h .most, g .end, c .known-told3 .given) }
+    record { fits = omega (arith, h .most, g .end, c .known-told4 .given) }
 
-returns-4 : tie.Need-returns-4
-returns-4 c =
+returns-3 : tie.Need-returns-3
+returns-3 c =
     let k = c .before in
-    let b = values-at k in
-    let v = b .before .before .before .got .given .0 in
-    let a = begin (b .before .before) .args in (
-      sym (rest b ∙ signed-crossed (now (a .s)) (a .context) (b .before .above .result) (b .above2 .result) (v .0) (v .1 .0) (v .1 .1 .0) _ _ _ _
+    let b = values-at k in (
+      sym (rest b ∙ signed-crossed _ _ _ _ _ _ _ _ _ _ _
           (first (k .before .before .before .before)) (second k) (c .if1 .taken)),
       (omega arith, omega arith),
     )
@@ -126,10 +102,10 @@ returns-5 c =
     let k = c .before .before in
     let b = values-at k in
     let l = b .before .before in
-    let v = l .before .got .given .0 in
+    let v = l .before .l .given .0 in
     let a = begin l .args in
     let g = good l in (
-      sym (rest b ∙ signed-read (now (a .s)) (a .context) (b .before .above .result) (b .above2 .result) (v .0) (v .1 .0) (v .1 .1 .0) _ _ _ _ _
+      sym (rest b ∙ signed-read _ _ _ _ _ _ _ _ _ _ _ _
           (first (k .before .before .before .before)) (second k) (c .before .if1 .left) (c .next-context .ensures .0)),
       (
         rw (b .before .above .ensures) (room (a .lsb) (v .0 .level) (v .0 .x) (v .0 .symbol % 4) (g .2) (omega arith) (g .1)),
@@ -146,7 +122,7 @@ pub read-pair-spec : {M : Type 1} → statement M
 read-pair-spec =
     tie.close
     (tie.spec
-    (λ c κs. search needs) (λ c. search needs) (λ c. search needs) (λ c κs. search needs) returns
-    above-requires above-requires-2 (λ c κs. search needs) (λ c. search needs) (λ c. search needs)
-    (λ c κs. search needs) returns-2 (λ c κs. search needs) (λ c. search needs) (λ c. search needs)
-    (λ c κs. search needs) returns-3 add-if1 add-if1-2 returns-4 next-context-requires returns-5)
+    (λ c κs. search needs) (λ c. search needs) (λ c. search needs) above-requires above-requires-2
+    (λ c κs. search needs) (λ c. search needs) (λ c. search needs) returns (λ c κs. search needs)
+    (λ c. search needs) (λ c. search needs) returns-2 add-if1 add-if1-2 returns-3 next-context-requires
+    returns-4 returns-5)

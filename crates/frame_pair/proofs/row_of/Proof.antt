@@ -10,8 +10,11 @@ returns : tie.Need-returns
 returns c =
     let s = c .before .before .before .before in
     let a = s .args in
-    let l = c .before .before .cap in
-    (row-is (now (a .look)) (a .base) (a .level) (l .result) (c .wide .result) (s .pre .1) (omega arith) (l .ensures .0) (c .wide .ensures .0), omega arith)
+    let l = c .before .before .cap in (
+      row-is (now (a .look)) (a .base) (a .level) (l .result) (c .wide .result) (s .pre .1) (omega arith) (l .ensures .0)
+          (c .wide .ensures .0),
+      omega arith,
+    )
 
 pub row-of-spec : {M : Type 1} → statement M
 row-of-spec =

@@ -26,7 +26,8 @@ loop-again c =
     let l = c .before .before .loop in (
       omega arith,
       simp length-set (l .inv .1),
-      copy-next _ _ (l .out) (l .i) _ (omega arith) (c .before .before .before .pre) (toZ-ofZ w32 _ (record { sfits = c .out .given })) (l .inv .2),
+      copy-next _ _ (l .out) (l .i) _ (omega arith) (c .before .before .before .pre) (toZ-ofZ w32 _ (record { sfits = c .out .given }))
+          (l .inv .2),
     )
 
 returns : tie.Need-returns Inv-loop μ-loop

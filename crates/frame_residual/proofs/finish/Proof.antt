@@ -16,9 +16,9 @@ returns c =
     let a = s .args in
     let n = length (now (a .spectrum)) in
     let z = b .if1 .taken in
-    let m = s .pre .6 in
+    let m = s .pre .1 .0 .room in
     let e = b .before .before .before .clear .ensures in (
-      sent-zero (now (a .s)) (a .lsb) _ (a .p) (a .left) (now (a .lines)) (now (a .levels)) _ _ _ z (s .pre .8) e (r .ensures .0),
+      sent-zero (now (a .s)) (a .lsb) _ (a .p) (a .left) (now (a .lines)) (now (a .levels)) _ _ _ z (s .pre .1 .1 .0) e (r .ensures .0),
       (
         finished-zero (now (a .s)) (a .lsb) n (a .last) (a .p) (a .left) (now (a .lines)) _ (now (a .levels)) z (k .ensures),
         (copy-small n (now (a .lines)) _ (k .ensures) (roomy-small (a .lsb) (now (a .lines)) (now (a .levels)) m), omega arith),
@@ -29,8 +29,8 @@ read-lates-requires : tie.Need-read-lates-requires
 read-lates-requires c κs =
     let s = c .before .before .before .before .before .before .before .before .before in
     let a = s .args in
-    let r = roomy-one (a .lsb) (now (a .lines)) (now (a .levels)) (s .pre .1) (c .before .if1 .left) (s .pre .6) in
-    (search needs, search needs, search needs, search needs, search needs, r)
+    let r = roomy-one (a .lsb) (now (a .lines)) (now (a .levels)) (s .pre .1 .1 .1 .1 .0) (c .before .if1 .left) (s .pre .1 .0 .room) in
+    (s .pre .0, (record { lines = s .pre .1 .0 .lines; levels = s .pre .1 .0 .levels; room = r }, search needs))
 
 returns-2 : tie.Need-returns-2
 returns-2 c =
@@ -42,9 +42,11 @@ returns-2 c =
     let n = length (now (a .spectrum)) in
     let l = r .last .1 .1 .1 .0 in
     let z = b .if1 .left in (
-      sent-one (now (a .s)) (a .lsb) _ (a .p) (a .left) (now (a .lines)) (now (a .levels)) _ _ z (s .pre .8) (b .before .before .before .clear .ensures),
+      sent-one (now (a .s)) (a .lsb) _ (a .p) (a .left) (now (a .lines)) (now (a .levels)) _ _ z (s .pre .1 .1 .0)
+          (b .before .before .before .clear .ensures),
       (
-        finished-one (now (a .s)) (a .lsb) n (a .last) (a .p) (a .left) (now (a .lines)) l _ (now (a .levels)) z (r .ensures .0) (k .ensures),
+        finished-one (now (a .s)) (a .lsb) n (a .last) (a .p) (a .left) (now (a .lines)) l _ (now (a .levels)) z (r .ensures .0)
+            (k .ensures),
         (copy-small n l _ (k .ensures) (r .ensures .1), omega arith),
       ),
     )

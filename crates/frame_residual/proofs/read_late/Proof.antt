@@ -17,15 +17,18 @@ returns c = (late-none _ _ _ _ (c .if1 .taken), tt)
 returns-2 : tie.Need-returns-2
 returns-2 c =
     let b = c .before .before .before .before in
-    let t = toZ-ofZ w32 (b .args .v) (b .fits .v) in
-    (late-same _ _ _ _ _ t (c .before .before .if1 .left) (sym (c .before .bit-at .ensures .0) ∙ c .if2 .taken), (same-abs _ _ t, omega arith))
+    let t = toZ-ofZ w32 (b .args .v) (b .fits .v) in (
+      late-same _ _ _ _ _ t (c .before .before .if1 .left) (sym (c .before .bit-at .ensures .0) ∙ c .if2 .taken),
+      (same-abs _ _ t, omega arith),
+    )
 
 returns-3 : tie.Need-returns-3
 returns-3 c =
     let b = c .before .before .before .before .before .before in
     let d = c .before .before .before in
     let z = zero-yes (b .args .v) (b .fits .v) (c .before .if3 .taken) in
-    let e = late-born _ (b .args .v) (b .args .p) (b .args .left) (d .before .if1 .left) (λ q. c .before .before .if2 .left (d .bit-at .ensures .0 ∙ q)) z in (
+    let e = late-born _ (b .args .v) (b .args .p) (b .args .left) (d .before .if1 .left)
+    (λ q. c .before .before .if2 .left (d .bit-at .ensures .0 ∙ q)) z in (
       c .born .ensures .0 ∙ e,
       later _ (natAbs (b .args .v)) _ (b .args .p + b .args .left) (c .born .result) (omega arith) (omega arith) (c .born .ensures .1),
     )

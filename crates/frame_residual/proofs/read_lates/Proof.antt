@@ -1,4 +1,5 @@
--- `frame_residual::read_lates` meets its contract. The invariant: what is still to be read gives the whole, and the lines to come have room.
+-- `frame_residual::read_lates` meets its contract. The invariant: what is still to be read gives the whole, and the lines to come have
+-- room.
 -- Assumes nothing.
 use Rattle.frame_residual.proofs.read_lates.Statement.{statement}
 use Rattle.frame_residual.proofs.read_lates.Tie as tie
@@ -12,7 +13,8 @@ use mir.Syntax.{w32}
 use mir.Val.{toZ, ofZ}
 use mir.ValLaws.{toZ-ofZ}
 use Rattle.frame_residual.specs.Residual.{latesOf, lateGiven}
-use Rattle.frame_residual.proofs.LateBits.{lates-first, lates-done, lates-skip, lates-stop, lates-more, RoomFrom, room-first, room-skip, room-next, room-last}
+use Rattle.frame_residual.proofs.LateBits.{lates-first, lates-done, lates-skip, lates-stop, lates-more}
+use Rattle.frame_residual.proofs.LateBits.{RoomFrom, room-first, room-skip, room-next, room-last}
 use Rattle.frame_residual.proofs.LateBits.{same-small, small-fits}
 use borrow.Author.Needs.{needs}
 
@@ -25,14 +27,16 @@ abbrev μ-loop : tie.MeasureT-loop
 μ-loop s levels n lines₀ start room p₀ left₀ k₀ lines p left k = n - k
 
 loop-holds : tie.Need-loop-holds Inv-loop μ-loop
-loop-holds c = (omega arith, search needs, omega arith, room-first _ _ (c .before .before .pre .5), lates-first _ _ _ _ _ _)
+loop-holds c = (omega arith, search needs, omega arith, room-first _ _ (c .before .before .pre .1 .0 .room), lates-first _ _ _ _ _ _)
 
 read-late-requires : tie.Need-read-late-requires Inv-loop μ-loop
 read-late-requires c κs =
     let l = c .before .before .before .before .loop in
     let x = getD (l .lines) (l .k) (pos 0) in
-    let e = toZ-ofZ w32 x (record { sfits = c .read-late-arg .given }) in
-    (c .before .before .before .before .before .before .before .pre .0, omega arith, same-small x _ e (l .inv .3 .small (l .k)))
+    let e = toZ-ofZ w32 x (record { sfits = c .read-late-arg .given }) in (
+      record { sized = c .before .before .before .before .before .before .before .pre .0 .sized; inside = omega arith },
+      same-small x _ e (l .inv .3 .small (l .k)),
+    )
 
 returns : tie.Need-returns Inv-loop μ-loop
 returns c =
@@ -43,7 +47,8 @@ returns c =
     let x = getD (l .lines) (l .k) (pos 0) in
     let i = toZ-ofZ w32 x (record { sfits = r .before .read-late-arg .given }) in
     let f = sym (r .read-late .ensures .0) ∙ ap lateGiven (c .enum-told .given .1) in
-    let e = lates-stop (now (a .s)) (now (a .levels)) (a .n) (l .k) (l .lines) (l .p) (l .left) _ (b .loop-test .taken) (r .before .before .if1 .taken) i f in
+    let e = lates-stop (now (a .s)) (now (a .levels)) (a .n) (l .k) (l .lines) (l .p) (l .left) _ (b .loop-test .taken)
+    (r .before .before .if1 .taken) i f in
     (sym (sym (l .inv .4) ∙ e), room-last _ _ _ (l .inv .3))
 
 loop-again : tie.Need-loop-again Inv-loop μ-loop

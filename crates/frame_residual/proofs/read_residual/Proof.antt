@@ -39,7 +39,8 @@ loop-again c =
       omega arith,
       omega arith,
       simp length-set (l .inv .2),
-      residual-more _ _ _ _ _ (l .k) (l .count) _ (l .bits) (b .loop-test .taken) z (c .before .if2 .left) (c .bit-at .ensures .0) ∙ l .inv .3,
+      residual-more _ _ _ _ _ (l .k) (l .count) _ (l .bits) (b .loop-test .taken) z (c .before .if2 .left) (c .bit-at .ensures .0) ∙ l .inv
+          .3,
     )
 
 loop-again-2 : tie.Need-loop-again-2 Inv-loop μ-loop

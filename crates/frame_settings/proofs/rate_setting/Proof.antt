@@ -3,41 +3,30 @@ use mathlib.Core.Path.{refl}
 use native.Mathlib.Omega.{arith}
 use borrow.Author.Needs.{needs}
 use Rattle.frame_settings.proofs.rate_setting.Statement.{statement}
-use Rattle.frame_settings.proofs.Rates.{rate-is, rate-other, known-rate}
+use Rattle.frame_settings.proofs.Rates.{rate-row, rate-other}
 use Rattle.frame_settings.proofs.rate_setting.Tie as tie
 
 returns : tie.Need-returns
-returns c =
-    let khz = c .before .before .args .khz in
-    let e = rate-is khz 8 _ _ (omega arith) refl (c .known .ensures) in
-    (e, known-rate khz _ e)
+returns c = rate-row _ 8 _ _ (omega arith) refl (c .known .ensures)
 
 returns-2 : tie.Need-returns-2
-returns-2 c =
-    let khz = c .before .before .args .khz in
-    let e = rate-is khz 16 _ _ (omega arith) refl (c .known2 .ensures) in
-    (e, known-rate khz _ e)
+returns-2 c = rate-row _ 16 _ _ (omega arith) refl (c .known2 .ensures)
 
 returns-3 : tie.Need-returns-3
-returns-3 c =
-    let khz = c .before .before .args .khz in
-    let e = rate-is khz 24 _ _ (omega arith) refl (c .known3 .ensures) in
-    (e, known-rate khz _ e)
+returns-3 c = rate-row _ 24 _ _ (omega arith) refl (c .known3 .ensures)
 
 returns-4 : tie.Need-returns-4
-returns-4 c =
-    let khz = c .before .before .args .khz in
-    let e = rate-is khz 32 _ _ (omega arith) refl (c .known4 .ensures) in
-    (e, known-rate khz _ e)
+returns-4 c = rate-row _ 32 _ _ (omega arith) refl (c .known4 .ensures)
 
 returns-5 : tie.Need-returns-5
-returns-5 c =
-    let khz = c .before .before .args .khz in
-    let e = rate-is khz 48 _ _ (omega arith) refl (c .known5 .ensures) in
-    (e, known-rate khz _ e)
+returns-5 c = rate-row _ 48 _ _ (omega arith) refl (c .known5 .ensures)
 
 returns-6 : tie.Need-returns-6
-returns-6 c = (rate-other (c .before .args .khz) (λ e. omega arith, (λ e. omega arith, (λ e. omega arith, (λ e. omega arith, (λ e. omega arith, tt))))), tt)
+returns-6 c = (
+  rate-other (c .before .args .khz)
+      (λ e. omega arith, (λ e. omega arith, (λ e. omega arith, (λ e. omega arith, (λ e. omega arith, tt))))),
+  tt,
+)
 
 pub rate-setting-spec : {M : Type 1} → statement M
 rate-setting-spec =

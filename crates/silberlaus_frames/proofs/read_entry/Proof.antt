@@ -28,7 +28,8 @@ returns c =
     let a = c .before .before .before .before .before .args in
     let l = c .before .before .line-count .ensures in
     refusal _ 1 (c .unread .result) _ _
-    (no-rate (a .khz) (now (a .bytes)) (a .place) (length (now (a .spectrum))) (length (now (a .residual))) (omega (arith, l, c .before .if1 .taken)))
+    (no-rate (a .khz) (now (a .bytes)) (a .place) (length (now (a .spectrum))) (length (now (a .residual)))
+    (omega (arith, l, c .before .if1 .taken)))
     (omega arith) (c .unread .ensures)
 
 returns-2 : tie.Need-returns-2
@@ -54,20 +55,28 @@ returns-4 c =
     let f = c .before .before .before in
     let a = c .before .before .before .before .before .before .before .before .before .before .args in
     let t = tested f in
-    let n = no-frame (a .khz) (now (a .bytes)) (a .place) (length (now (a .spectrum))) (length (now (a .residual))) (t .0) (t .1) (t .2) (t .3)
+    let n = no-frame (a .khz) (now (a .bytes)) (a .place) (length (now (a .spectrum))) (length (now (a .residual))) (t .0) (t .1) (t .2)
+    (t .3)
     (now (f .frame .result)) (f .frame .ensures) (omega (arith, c .before .before .if4 .taken)) in
     refusal _ _ (c .unread4 .result) _ _ (n .0) (n .1) (rw (c .before .why-missing .ensures) at (c .unread4 .ensures))
 
 returns-5 : tie.Need-returns-5
 returns-5 c =
     let f = c .before .before .before .before .before .before .before .before in
-    let a = c .before .before .before .before .before .before .before .before .before .before .before .before .before .before .before .args in
+    let a = c .before .before .before .before .before .before .before .before .before .before .before .before .before .before .before .args
+    in
     let r = c .before .before .before .before .read in
     let t = tested f in
-    let p = part-read (a .khz) (now (a .bytes)) (a .place) (length (now (a .spectrum))) (length (now (a .residual))) (t .0) (t .1) (t .2) (t .3)
-    (now (f .frame .result)) (f .frame .ensures) (λ z. omega (arith, z, c .before .before .before .before .before .before .before .if4 .left)) in
+    let p = part-read (a .khz) (now (a .bytes)) (a .place) (length (now (a .spectrum))) (length (now (a .residual))) (t .0) (t .1) (t .2)
+    (t .3)
+    (now (f .frame .result)) (f .frame .ensures) (λ z. omega (
+      arith,
+      z,
+      c .before .before .before .before .before .before .before .if4
+          .left,
+    )) in
     reading _ _ (r .result) (c .numbered .result) _ _ _ _ p (c .numbered .ensures)
-    (r .ensures .0) (r .ensures .1 .0) (r .ensures .1 .1 .0) (r .ensures .1 .1 .1)
+    (r .ensures .0) (r .ensures .1)
 
 pub read-entry-spec : {M : Type 1} → statement M
 read-entry-spec =
