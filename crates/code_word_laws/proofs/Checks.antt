@@ -23,7 +23,22 @@ use Rattle.code_word_laws.specs.Register.{gathered, feedback, register, 
 use Rattle.code_word_laws.specs.Checks.{alone, checkOf, checkRows, withData, summed}
 use Rattle.code_word_laws.proofs.Distance.{unique-values}
 use Rattle.code_word_laws.proofs.Division.{rooted-root, semi-octet-at, value-append, valid-roots, take-semi-octets}
-use Rattle.code_word_laws.proofs.Register.{held, held-xor, held-nothing, Empty, register-held, register-empty, register-leaves, Leaves, leaves-codes, with-checks-value, with-checks-semi-octets, with-checks-holds, with-checks-length, drop-semi-octets}
+use Rattle.code_word_laws.proofs.Register.{
+  held,
+  held-xor,
+  held-nothing,
+  Empty,
+  register-held,
+  register-empty,
+  register-leaves,
+  Leaves,
+  leaves-codes,
+  with-checks-value,
+  with-checks-semi-octets,
+  with-checks-holds,
+  with-checks-length,
+  drop-semi-octets,
+}
 use Rattle.code_word_laws.proofs.Coded.{apart-front, coded-is, coded-only}
 
 -- ---- the digits
@@ -32,7 +47,8 @@ pub digits-length : (n r : ℕ) → length (withChecks n r []) ≡ n
 digits-length n r = with-checks-length n r [] ∙ add-zero n
 
 digits-value : (n r x : ℕ) → value (withChecks n r []) x ≡ held n r x
-digits-value n r x = with-checks-value n r [] x tt ∙ ap (λ (v : ℕ). sum (held n r x) v) (product-by-zero (power x n)) ∙ sum-zero (held n r x)
+digits-value n r x = with-checks-value n r [] x tt ∙ ap (λ (v : ℕ). sum (held n r x) v) (product-by-zero (power x n))
+    ∙ sum-zero (held n r x)
 
 -- ---- one semi-octet alone
 
@@ -87,8 +103,10 @@ register-check n message h s =
     let few : apart (take n w) v ≤ n =
     apart-front n (take n w) v (drop-of-length-le (take n w) {i = n} (omega arith) ∙ sym (drop-of-length-le v {i = n} (omega arith))) in
     let same : take n w ≡ v =
-    unique-values (suc n) (take n w) v (short ∙ sym long) (omega arith) (take-semi-octets n w (c .semi-octets)) (with-checks-semi-octets n r [] tt)
-    (λ j a b. check-value n j message s a (omega arith) ∙ sym (digits-value n r (power 2 j) ∙ register-leaves n message s j a (omega arith)))
+    unique-values (suc n) (take n w) v (short ∙ sym long) (omega arith) (take-semi-octets n w (c .semi-octets))
+    (with-checks-semi-octets n r [] tt)
+    (λ j a b. check-value n j message s a (omega arith)
+    ∙ sym (digits-value n r (power 2 j) ∙ register-leaves n message s j a (omega arith)))
     (omega arith) in
     ap (gathered 0) same ∙ with-checks-back n r [] (register-empty n message s)
 
@@ -115,7 +133,8 @@ more-step : (c x a b : ℕ) → sum c (product x (sum a b)) ≡ sum (sum c (prod
 more-step c x a b = simp ring2
 
 -- the value of the data with one semi-octet more
-value-more : (message : List ℕ) (m x : ℕ) → m < length message → value (take (suc m) message) x ≡ sum (value (take m message) x) (value (alone m (getD message m 0)) x)
+value-more : (message : List ℕ) (m x : ℕ) → m < length message
+    → value (take (suc m) message) x ≡ sum (value (take m message) x) (value (alone m (getD message m 0)) x)
 unfolding alone
 value-more [] m x h = absurd (omega arith)
 value-more (c ∷ cs) zero x h = sym (zero-sum (sum c (product x 0)))
@@ -125,11 +144,13 @@ value-more (c ∷ cs) (suc m) x h =
 
 -- ---- the sum
 
-summed-more : (rows : List ℕ) (f : ℕ → ℕ) (m : ℕ) → m < 13 → summed rows f (suc m) ≡ bitXor (summed rows f m) (getD rows (16 * m + f m % 16) 0)
+summed-more : (rows : List ℕ) (f : ℕ → ℕ) (m : ℕ) → m < 13
+    → summed rows f (suc m) ≡ bitXor (summed rows f m) (getD rows (16 * m + f m % 16) 0)
 unfolding summed withData
 summed-more rows f m h = ap (λ b. cond b (bitXor (summed rows f m) (getD rows (16 * m + f m % 16) 0)) (summed rows f m)) (lt-ltb m 13 h)
 
-summed-held : (n m : ℕ) (message : List ℕ) (x : ℕ) → n < 15 → m ≤ length message → length message ≤ 13 → SemiOctets message → value (rooted (suc n)) x ≡ 0
+summed-held : (n m : ℕ) (message : List ℕ) (x : ℕ) → n < 15 → m ≤ length message → length message ≤ 13 → SemiOctets message
+    → value (rooted (suc n)) x ≡ 0
     → held (suc n) (summed (checkRows (suc n)) (λ k. getD message k 0) m) x ≡ product (power x (suc n)) (value (take m message) x)
 unfolding summed
 summed-held n zero message x b h l s z = held-nothing (suc n) x ∙ sym (product-by-zero (power x (suc n)))
@@ -170,7 +191,8 @@ pub summed-none : (rows : List ℕ) (f : ℕ → ℕ) → 0 ≡ summed rows f 0
 unfolding summed
 summed-none rows f = refl
 
-pub summed-next : (rows : List ℕ) (f : ℕ → ℕ) (k c r s : ℕ) → c ≡ f k → r ≡ summed rows f k → s ≡ withData rows k c r → s ≡ summed rows f (k + 1)
+pub summed-next : (rows : List ℕ) (f : ℕ → ℕ) (k c r s : ℕ) → c ≡ f k → r ≡ summed rows f k → s ≡ withData rows k c r
+    → s ≡ summed rows f (k + 1)
 unfolding summed
 summed-next rows f k c r s e h t = t ∙ ap₂ (withData rows k) e h ∙ ap (summed rows f) (sym (add-one k))
 

@@ -16,14 +16,23 @@ use Rattle.code_word_laws.specs.Polynomial.{multiplied, rooted, generato
 use Rattle.code_word_laws.specs.Word.{SemiOctets, apart}
 use Rattle.code_word_laws.specs.Make.{remainder, coded, CodeWord}
 use Rattle.code_word_laws.proofs.Distance.{unequal-le, apart-self}
-use Rattle.code_word_laws.proofs.Division.{unique, divided, quotient-by, rooted-monic, remainder-length, remainder-semi-octets, zeros-semi-octets}
+use Rattle.code_word_laws.proofs.Division.{
+  unique,
+  divided,
+  quotient-by,
+  rooted-monic,
+  remainder-length,
+  remainder-semi-octets,
+  zeros-semi-octets,
+}
 
 pub append-semi-octets : (xs ys : List ℕ) → SemiOctets xs → SemiOctets ys → SemiOctets (xs ++ ys)
 append-semi-octets [] ys s t = t
 append-semi-octets (x ∷ xs) ys s t = (s .0, append-semi-octets xs ys (s .1) t)
 
 -- what stands in front of the data is added at powers where the shifted data have none
-front : (n : ℕ) (rs message : List ℕ) (k : ℕ) → length rs ≡ n → getD (rs ++ message) k 0 ≡ sum (getD (replicate n 0 ++ message) k 0) (getD rs k 0)
+front : (n : ℕ) (rs message : List ℕ) (k : ℕ) → length rs ≡ n
+    → getD (rs ++ message) k 0 ≡ sum (getD (replicate n 0 ++ message) k 0) (getD rs k 0)
 front zero [] message k e = sym (sum-zero (getD message k 0))
 front zero (r ∷ rs) message k e = absurd (omega arith)
 front (suc n) [] message k e = absurd (omega arith)
@@ -59,10 +68,12 @@ apart-front (suc n) (x ∷ xs) [] e = omega arith
 apart-front (suc n) (x ∷ xs) (y ∷ ys) e = let r = apart-front n xs ys e in let u = unequal-le (eqb x y) in omega arith
 
 -- two code words over the same data
-pub code-word-only : (d : ℕ) (message v w : List ℕ) → 2 ≤ d → d - 1 + length message ≤ 15 → CodeWord d message v → CodeWord d message w → v ≡ w
+pub code-word-only : (d : ℕ) (message v w : List ℕ) → 2 ≤ d → d - 1 + length message ≤ 15 → CodeWord d message v → CodeWord d message w
+    → v ≡ w
 code-word-only d message v w a l p q =
     let f = apart-front (d - 1) v w (p .holds ∙ sym (q .holds)) in
     unique d v w (p .long ∙ sym (q .long)) (omega (arith, p .long)) (p .semi-octets) (q .semi-octets) (p .valid) (q .valid) (omega arith)
 
-pub coded-only : (d : ℕ) (message w : List ℕ) → 2 ≤ d → d - 1 + length message ≤ 15 → SemiOctets message → CodeWord d message w → w ≡ coded d message
+pub coded-only : (d : ℕ) (message w : List ℕ) → 2 ≤ d → d - 1 + length message ≤ 15 → SemiOctets message → CodeWord d message w
+    → w ≡ coded d message
 coded-only d message w a l s p = code-word-only d message w (coded d message) a l p (coded-is d message s)

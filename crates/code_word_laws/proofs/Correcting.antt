@@ -16,8 +16,29 @@ use Rattle.code_word_laws.specs.Polynomial.{value, added}
 use Rattle.code_word_laws.specs.Word.{SemiOctets, Roots, apart, unequal, distance}
 use Rattle.code_word_laws.specs.Correct.{Near, WordCorrected}
 use Rattle.code_word_laws.specs.Packed.{nibble}
-use Rattle.code_word_laws.specs.Corrector.{Syndromes, Clear, Acceptable, weight, Explains, Recurs, Continues, back, Transformed, ErrorWord, takenOff}
-use Rattle.code_word_laws.proofs.Distance.{support, support-rising, support-few, added-length, added-semi-octets, value-added, value-total, apart-self}
+use Rattle.code_word_laws.specs.Corrector.{
+  Syndromes,
+  Clear,
+  Acceptable,
+  weight,
+  Explains,
+  Recurs,
+  Continues,
+  back,
+  Transformed,
+  ErrorWord,
+  takenOff,
+}
+use Rattle.code_word_laws.proofs.Distance.{
+  support,
+  support-rising,
+  support-few,
+  added-length,
+  added-semi-octets,
+  value-added,
+  value-total,
+  apart-self,
+}
 use Rattle.code_word_laws.proofs.Division.{valid-roots, roots-valid, nearest}
 use Rattle.code_word_laws.proofs.Transform.{undone}
 use Rattle.code_word_laws.proofs.Locator.{Follows}
@@ -47,9 +68,11 @@ locator-by t s r1 r2 r3 u to h es x =
     (h (λ i. getD es i 0) (support 0 es) (support-rising es 0 (omega (arith, x .short))) (omega (arith, support-weight es 0, x .few))
     (λ j l. sym (value-total es (suc j) (x .semi-octets)) ∙ x .sums (suc j) (omega arith) (omega arith) ∙ digit-at s j (omega arith)))
 
-pub error-word-is : (t s r1 r2 r3 u e : ℕ) → 1 ≤ t → Continues t s r1 r2 r3 u → Transformed r1 r2 r3 (nibble 1 s) (nibble 2 s) u e → ErrorWord t s e
+pub error-word-is : (t s r1 r2 r3 u e : ℕ) → 1 ≤ t → Continues t s r1 r2 r3 u → Transformed r1 r2 r3 (nibble 1 s) (nibble 2 s) u e
+    → ErrorWord t s e
 error-word-is t s r1 r2 r3 u e from h g es x k l =
-    g (λ n. value es (power 2 n)) (h es x .0) (x .sums 1 (omega arith) (omega arith)) (x .sums 2 (omega arith) (omega arith)) (h es x .1) k l
+    g (λ n. value es (power 2 n)) (h es x .0) (x .sums 1 (omega arith) (omega arith)) (x .sums 2 (omega arith) (omega arith)) (h es x .1) k
+    l
     ∙ ap (λ (v : ℕ → ℕ). back v k 15) (fun-ext (λ n. value-total es n (x .semi-octets)))
     ∙ undone es k (x .short) (x .semi-octets) l
 
@@ -67,9 +90,11 @@ taken-off-semi-octets (c ∷ cs) e s = (sum-lt c (e % 16) (s .0) (omega arith), 
 pub taken-off-twice : (w : List ℕ) (e : ℕ) → takenOff (takenOff w e) e ≡ w
 taken-off-twice [] e = refl
 taken-off-twice (c ∷ cs) e =
-    ap₂ (λ (a : ℕ) (l : List ℕ). a ∷ l) (sum-assoc c (e % 16) (e % 16) ∙ ap (λ (x : ℕ). sum c x) (sum-self (e % 16)) ∙ sum-zero c) (taken-off-twice cs (e / 16))
+    ap₂ (λ (a : ℕ) (l : List ℕ). a ∷ l) (sum-assoc c (e % 16) (e % 16) ∙ ap (λ (x : ℕ). sum c x) (sum-self (e % 16)) ∙ sum-zero c)
+    (taken-off-twice cs (e / 16))
 
-taken-off-is : (w cs : List ℕ) (e : ℕ) → length w ≡ length cs → ((k : ℕ) → k < length w → nibble k e ≡ getD (added w cs) k 0) → takenOff w e ≡ cs
+taken-off-is : (w cs : List ℕ) (e : ℕ) → length w ≡ length cs → ((k : ℕ) → k < length w → nibble k e ≡ getD (added w cs) k 0)
+    → takenOff w e ≡ cs
 unfolding added
 taken-off-is [] [] e l h = refl
 taken-off-is [] (c ∷ cs) e l h = absurd (omega arith)
@@ -97,7 +122,8 @@ module _ (t : ℕ) (w : List ℕ) (s e : ℕ) (to : t ≤ 3) (short : length w �
             ∙ sym (syndromes j (omega arith));
       }
 
-  pub complete : ErrorWord t s e → (cs : List ℕ) → length w ≡ length cs → SemiOctets cs → Roots (t + t + 1) cs → apart w cs ≤ t → takenOff w e ≡ cs
+  pub complete : ErrorWord t s e → (cs : List ℕ) → length w ≡ length cs → SemiOctets cs → Roots (t + t + 1) cs → apart w cs ≤ t
+      → takenOff w e ≡ cs
   complete g cs l c r n = taken-off-is w cs e l (λ k b. g (added w cs) (explains cs l c r n) k (omega arith))
 
 -- ---- what the corrector answers
@@ -112,7 +138,8 @@ roots-clear t w s to syndromes roots j p q = syndromes j (omega arith) ∙ roots
 pub accepts-not : (t n : ℕ) (w : List ℕ) → t < n → Decides (Acceptable t n w) false
 accepts-not t n w h = record { holds = λ e. absurd (false≢true e); fails = λ e a. omega (arith, a .few) }
 
-pub accepts-clear : (t n : ℕ) (w : List ℕ) (s : ℕ) {r : Bool} → t ≤ 3 → n ≤ t → Syndromes w s → Decides (Clear (t + t) s) r → Decides (Acceptable t n w) r
+pub accepts-clear : (t n : ℕ) (w : List ℕ) (s : ℕ) {r : Bool} → t ≤ 3 → n ≤ t → Syndromes w s → Decides (Clear (t + t) s) r
+    → Decides (Acceptable t n w) r
 accepts-clear t n w s to h syndromes c =
     record {
       holds = λ e. record { few = h; roots = clear-roots t w s to syndromes (c .holds e) };
@@ -148,7 +175,8 @@ module _ (t : ℕ) (old : List ℕ) (to : t ≤ 3) (short : length old ≤ 15) (
   module _ (e n : ℕ) (counted : n ≡ apart old (takenOff old e)) where
     pub taken-off-accepted : n ≤ t → Roots (t + t + 1) (takenOff old e) → WordCorrected (t + 1) old (takenOff old e) n
     taken-off-accepted few roots =
-        found-is (takenOff old e) n counted (near-by (takenOff old e) (taken-off-semi-octets old e semi) (taken-off-length old e) roots (omega arith))
+        found-is (takenOff old e) n counted (near-by (takenOff old e) (taken-off-semi-octets old e semi) (taken-off-length old e) roots
+        (omega arith))
 
     -- a valid word near it would have been found
     pub taken-off-refused : (s k : ℕ) → k ≡ t + 1 → Syndromes old s → ErrorWord t s e → (n ≤ t → Roots (t + t + 1) (takenOff old e) → ⊥)
@@ -161,20 +189,24 @@ module _ (t : ℕ) (old : List ℕ) (to : t ≤ 3) (short : length old ≤ 15) (
           none = λ b w near.
               let r : Roots (distance (t + 1)) w = valid-roots (distance (t + 1)) w (near .semi-octets) (near .valid) in
               let e′ : takenOff old e ≡ w =
-              complete t old s e to short semi syndromes error-word w (sym (near .long)) (near .semi-octets) (λ j p q. r j p (omega arith)) (omega (arith, near .near)) in
+              complete t old s e to short semi syndromes error-word w (sym (near .long)) (near .semi-octets) (λ j p q. r j p (omega arith))
+              (omega (arith, near .near)) in
               not (omega (arith, near .near, counted ∙ ap (λ (l : List ℕ). apart old l) e′))
               (λ j p q. ap (λ (l : List ℕ). value l (power 2 j)) e′ ∙ r j p (omega arith));
           kept = λ b. taken-off-twice old e;
           told = λ b. is;
         }
 
-  pub correct-word-accepted : (e n : ℕ) (new : List ℕ) {r : Bool} → new ≡ takenOff old e → n ≡ apart old new → Decides (Acceptable t n new) r → r ≡ true → WordCorrected (t + 1) old new n
+  pub correct-word-accepted : (e n : ℕ) (new : List ℕ) {r : Bool} → new ≡ takenOff old e → n ≡ apart old new
+      → Decides (Acceptable t n new) r → r ≡ true → WordCorrected (t + 1) old new n
   correct-word-accepted e n new en counted a taken =
       rw en (taken-off-accepted e n (rw en at counted) (a .holds taken .few) (rw en at (a .holds taken .roots)))
 
   -- k is the count that is answered then
-  pub correct-word-refused : (e n s k : ℕ) (new last : List ℕ) {r : Bool} → new ≡ takenOff old e → n ≡ apart old new → last ≡ takenOff new e → k ≡ t + 1
+  pub correct-word-refused : (e n s k : ℕ) (new last : List ℕ) {r : Bool} → new ≡ takenOff old e → n ≡ apart old new → last ≡ takenOff new e
+      → k ≡ t + 1
       → Syndromes old s → ErrorWord t s e → Decides (Acceptable t n new) r → r ≡ false → WordCorrected (t + 1) old last k
   correct-word-refused e n s k new last en counted el is syndromes error-word a left =
       let back : last ≡ takenOff (takenOff old e) e = el ∙ ap (λ (l : List ℕ). takenOff l e) en in
-      rw back (taken-off-refused e n (rw en at counted) s k is syndromes error-word (λ few roots. a .fails left (record { few = few; roots = rw en roots })))
+      rw back (taken-off-refused e n (rw en at counted) s k is syndromes error-word
+      (λ few roots. a .fails left (record { few = few; roots = rw en roots })))

@@ -12,7 +12,19 @@ use lib.Dec.{eqb}
 use lib.ListN.{length, getD}
 use borrow.Author.Tests.{eqb-true, eq-eqb}
 use Rattle.gf16.specs.Field.{sum, product, power}
-use Rattle.gf16.proofs.Laws.{ring, sum-lt, sum-same, sum-self, sum-zero, zero-sum, one-product, product-by-zero, product-lt, power-one, power-product}
+use Rattle.gf16.proofs.Laws.{
+  ring,
+  sum-lt,
+  sum-same,
+  sum-self,
+  sum-zero,
+  zero-sum,
+  one-product,
+  product-by-zero,
+  product-lt,
+  power-one,
+  power-product,
+}
 use Rattle.code_word_laws.specs.Polynomial.{value, added}
 use Rattle.code_word_laws.specs.Word.{SemiOctets, Roots, apart, unequal}
 use Rattle.code_word_laws.proofs.Places.{place, total, Rising, Zero, vanish}
@@ -113,7 +125,8 @@ Zeros (c ∷ cs) = (c ≡ 0) × Zeros cs
 all-zero : (cs : List ℕ) (k : ℕ) (f : ℕ → ℕ) → SemiOctets cs → ((i : ℕ) → f (k + i) ≡ getD cs i 0) → Zero f (support k cs) → Zeros cs
 all-zero [] k f s h z = tt
 all-zero (zero ∷ cs) k f s h z = (refl, all-zero cs (suc k) f (s .1) (shift f k 0 cs h) z)
-all-zero (suc c ∷ cs) k f s h z = let e : f k ≡ suc c = ap f (sym (add-zero k)) ∙ h 0 in let b = s .0 in let m = z .0 in absurd (omega arith)
+all-zero (suc c ∷ cs) k f s h z = let e : f k ≡ suc c = ap f (sym (add-zero k)) ∙ h 0 in let b = s .0 in let m = z .0 in
+    absurd (omega arith)
 
 same : (xs ys : List ℕ) → length xs ≡ length ys → Zeros (added xs ys) → xs ≡ ys
 unfolding added

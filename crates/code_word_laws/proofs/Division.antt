@@ -12,7 +12,20 @@ use lib.ListN.{length, getD, take, replicate, length-replicate, List·getD-eq-de
 use lib.Seq.{getD-take, length-take-le}
 use borrow.Author.Tests.{eqb-true, eqb-false, ltb-true, ltb-false}
 use Rattle.gf16.specs.Field.{sum, expanded, lowered, reduced, product, power}
-use Rattle.gf16.proofs.Laws.{ring, ring2, sum-lt, sum-self, sum-zero, zero-sum, one-product, product-one, product-by-zero, zero-product, product-lt, power-lt}
+use Rattle.gf16.proofs.Laws.{
+  ring,
+  ring2,
+  sum-lt,
+  sum-self,
+  sum-zero,
+  zero-sum,
+  one-product,
+  product-one,
+  product-by-zero,
+  zero-product,
+  product-lt,
+  power-lt,
+}
 use Rattle.code_word_laws.specs.Polynomial.{value, scaled, added, multiplied, rooted, generator}
 use Rattle.code_word_laws.specs.Word.{SemiOctets, Valid, Roots, apart, distance}
 use Rattle.code_word_laws.specs.Make.{lessened, remainder}
@@ -57,7 +70,8 @@ pub value-zeros : (n x : ℕ) → value (replicate n 0) x ≡ 0
 value-zeros zero x = refl
 value-zeros (suc n) x = ap (λ (v : ℕ). sum 0 (product x v)) (value-zeros n x) ∙ nothing-more x
 
-pub value-append : (xs ys : List ℕ) (x : ℕ) → SemiOctets ys → value (xs ++ ys) x ≡ sum (value xs x) (product (power x (length xs)) (value ys x))
+pub value-append : (xs ys : List ℕ) (x : ℕ) → SemiOctets ys
+    → value (xs ++ ys) x ≡ sum (value xs x) (product (power x (length xs)) (value ys x))
 unfolding power
 value-append [] ys x s = sym (zero-sum (product 1 (value ys x)) ∙ one-product (value ys x) ∙ mod-eq-of-lt (value-lt ys x s))
 value-append (a ∷ xs) ys x s =
@@ -86,7 +100,8 @@ rooted-root (suc n) j p h = rooted-at n j ∙ go (eqb j (suc n)) refl (rooted-ro
         ∙ zero-product (value (rooted n) (power 2 j))
     go false e r =
         let d : (j ≡ suc n → ⊥) = eqb-false j (suc n) e in
-        ap (λ (v : ℕ). product (sum (power 2 (suc n)) (power 2 j)) v) (r (omega arith)) ∙ product-by-zero (sum (power 2 (suc n)) (power 2 j))
+        ap (λ (v : ℕ). product (sum (power 2 (suc n)) (power 2 j)) v) (r (omega arith))
+        ∙ product-by-zero (sum (power 2 (suc n)) (power 2 j))
 
 -- what is divided by the generator has its roots
 pub valid-roots : (d : ℕ) (w : List ℕ) → SemiOctets w → Valid d w → Roots d w
@@ -134,7 +149,8 @@ unfolding rooted multiplied
 rooted-coefficient n k =
     getD-added (scaled (power 2 (suc n)) (rooted n)) (0 ∷ added (scaled 1 (rooted n)) (0 ∷ [])) (suc k)
     ∙ ap₂ sum (getD-scaled (power 2 (suc n)) (rooted n) (suc k))
-    (getD-added (scaled 1 (rooted n)) (replicate 1 0) k ∙ ap₂ sum (getD-scaled 1 (rooted n) k) (getD-zeros 1 k) ∙ sum-zero (product 1 (getD (rooted n) k 0)))
+    (getD-added (scaled 1 (rooted n)) (replicate 1 0) k ∙ ap₂ sum (getD-scaled 1 (rooted n) k) (getD-zeros 1 k)
+    ∙ sum-zero (product 1 (getD (rooted n) k 0)))
 
 pub rooted-monic : (n : ℕ) → Monic n (rooted n)
 unfolding rooted
@@ -206,13 +222,15 @@ cut n cs k l h = go (ltb k n) refl
   where
     go : (b : Bool) → ltb k n ≡ b → getD (take n cs) k 0 ≡ getD cs k 0
     go true e = getD-take n cs k 0 (ltb-true k n e)
-    go false e = let m : n ≤ k = ltb-false k n e in List·getD-eq-default (take n cs) 0 {n = k} (omega (arith, length-take-le n cs l)) ∙ sym (h m)
+    go false e = let m : n ≤ k = ltb-false k n e in List·getD-eq-default (take n cs) 0 {n = k} (omega (arith, length-take-le n cs l))
+        ∙ sym (h m)
 
 -- a step of the division adds the same multiple of g at every power
 lessened-coefficient : (n : ℕ) (g p : List ℕ) (k : ℕ) → Monic n g → length p ≡ suc n → SemiOctets p
     → getD (lessened n g p) k 0 ≡ sum (getD p k 0) (product (getD p n 0) (getD g k 0))
 unfolding lessened
-lessened-coefficient n g p k m l s = cut n (added p (scaled (getD p n 0) g)) k (omega (arith, added-long p (scaled (getD p n 0) g))) (λ h. at k ∙ high (eqb k n) refl h) ∙ at k
+lessened-coefficient n g p k m l s = cut n (added p (scaled (getD p n 0) g)) k (omega (arith, added-long p (scaled (getD p n 0) g)))
+    (λ h. at k ∙ high (eqb k n) refl h) ∙ at k
   where
     at : (i : ℕ) → getD (added p (scaled (getD p n 0) g)) i 0 ≡ sum (getD p i 0) (product (getD p n 0) (getD g i 0))
     at i = getD-added p (scaled (getD p n 0) g) i ∙ ap (λ (a : ℕ). sum (getD p i 0) a) (getD-scaled (getD p n 0) g i)
@@ -245,7 +263,8 @@ divided n g (c ∷ cs) m s k =
     let p = c ∷ remainder n g cs in
     let t = getD p n 0 in
     ap₂ sum
-    (getD-added (scaled t g) (0 ∷ multiplied (quotient-by n g cs) g) k ∙ ap (λ (a : ℕ). sum a (getD (0 ∷ multiplied (quotient-by n g cs) g) k 0)) (getD-scaled t g k))
+    (getD-added (scaled t g) (0 ∷ multiplied (quotient-by n g cs) g) k
+    ∙ ap (λ (a : ℕ). sum a (getD (0 ∷ multiplied (quotient-by n g cs) g) k 0)) (getD-scaled t g k))
     (lessened-coefficient n g p k m (ap suc (remainder-length n g cs)) (s .0, remainder-semi-octets n g cs (s .1)))
     ∙ regroup (product t (getD g k 0)) (getD (0 ∷ multiplied (quotient-by n g cs) g) k 0) (getD p k 0)
     ∙ below k (divided n g cs m (s .1))
@@ -268,20 +287,24 @@ remainder-roots d w s r j p h =
     let x = power 2 j in
     sym (zero-sum (value (remainder n g w) x))
     ∙ ap (λ (a : ℕ). sum a (value (remainder n g w) x))
-    (sym (value-multiplied (quotient-by n g w) g x ∙ ap (λ (a : ℕ). product (value (quotient-by n g w) x) a) (rooted-root n j p (omega arith)) ∙ product-by-zero (value (quotient-by n g w) x)))
+    (sym (value-multiplied (quotient-by n g w) g x
+    ∙ ap (λ (a : ℕ). product (value (quotient-by n g w) x) a) (rooted-root n j p (omega arith))
+    ∙ product-by-zero (value (quotient-by n g w) x)))
     ∙ sym (value-added (multiplied (quotient-by n g w) g) (remainder n g w) x)
     ∙ value-same (added (multiplied (quotient-by n g w) g) (remainder n g w)) w x
     (λ k. getD-added (multiplied (quotient-by n g w) g) (remainder n g w) k ∙ divided n g w (rooted-monic n) s k)
     ∙ r j p h
 
 -- a word with the generator's roots leaves the remainder 0: the remainder has fewer coefficients than the distance, and the same roots
-roots-remainder : (d : ℕ) (w : List ℕ) → 1 ≤ d → d ≤ 16 → SemiOctets w → Roots d w → remainder (d - 1) (rooted (d - 1)) w ≡ replicate (d - 1) 0
+roots-remainder : (d : ℕ) (w : List ℕ) → 1 ≤ d → d ≤ 16 → SemiOctets w → Roots d w
+    → remainder (d - 1) (rooted (d - 1)) w ≡ replicate (d - 1) 0
 roots-remainder d w a b s r =
     let n = d - 1 in
     let R = remainder n (rooted n) w in
     let l = remainder-length n (rooted n) w in
     let f = apart-few R (replicate n 0) in
-    unique-roots d R (replicate n 0) (l ∙ sym (length-replicate n 0)) (omega arith) (remainder-semi-octets n (rooted n) w s) (zeros-semi-octets n)
+    unique-roots d R (replicate n 0) (l ∙ sym (length-replicate n 0)) (omega arith) (remainder-semi-octets n (rooted n) w s)
+    (zeros-semi-octets n)
     (remainder-roots d w s r) (λ j p h. value-zeros n (power 2 j)) (omega arith)
 
 -- what has the generator's roots is divided by it
@@ -315,6 +338,7 @@ nearest mode old u v l p q =
 
 -- ---- document 01's generating polynomials (A.40 to A.42)
 
-pub generators : (generator 3 ≡ 8 ∷ 6 ∷ 1 ∷ []) × (generator 5 ≡ 7 ∷ 8 ∷ 12 ∷ 13 ∷ 1 ∷ []) × (generator 7 ≡ 12 ∷ 10 ∷ 12 ∷ 3 ∷ 9 ∷ 7 ∷ 1 ∷ [])
+pub generators : (generator 3 ≡ 8 ∷ 6 ∷ 1 ∷ []) × (generator 5 ≡ 7 ∷ 8 ∷ 12 ∷ 13 ∷ 1 ∷ [])
+    × (generator 7 ≡ 12 ∷ 10 ∷ 12 ∷ 3 ∷ 9 ∷ 7 ∷ 1 ∷ [])
 unfolding generator rooted multiplied scaled added sum product reduced lowered expanded power
 generators = (refl, refl, refl)

@@ -10,7 +10,7 @@ use Rattle.code_word_laws.specs.Word.{SemiOctets, distance}
 use Rattle.code_word_laws.specs.Make.{CodeWord, IsMade, NotMade}
 use Rattle.code_word_laws.specs.Register.{feedback, fed, register, withChecks}
 use Rattle.code_word_laws.proofs.Division.{semi-octet-at}
-use Rattle.code_word_laws.proofs.Tests.{drop-back}
+use Rattle.laws.proofs.Tab.{drop-back}
 use Rattle.code_word_laws.proofs.Coded.{code-word-only}
 use Rattle.code_word_laws.proofs.Register.{register-codes}
 
@@ -64,7 +64,8 @@ made mode n r rows old new a b e h l t s d p =
     p ∙ ap (λ (v : ℕ). withChecks n v (drop n old)) (d ∙ ap (λ (u : List ℕ). register u (drop n old)) t)
     ∙ ap (λ (i : ℕ). withChecks i (register (feedback k) (drop i old)) (drop i old)) e in
     let word : CodeWord (distance mode) message new =
-    subst (λ (w : List ℕ). CodeWord (distance mode) message w) (sym is) (register-codes (distance mode) message (omega arith) (omega arith) semi) in
+    subst (λ (w : List ℕ). CodeWord (distance mode) message w) (sym is)
+    (register-codes (distance mode) message (omega arith) (omega arith) semi) in
     record {
       makeable = record { fits = record { mode-from = a; mode-to = b; checks = omega arith; most = l }; semi-octets = semi };
       made = word;

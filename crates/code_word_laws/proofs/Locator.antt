@@ -10,7 +10,22 @@ use native.Mathlib.Omega.{arith}
 use native.Mathlib.Nat.{mod-eq-of-lt}
 use lib.ListN.{length, getD}
 use Rattle.gf16.specs.Field.{sum, product, power, inverse}
-use Rattle.gf16.proofs.Laws.{ring, ring2, sum-lt, sum-same, sum-zero, zero-sum, product-comm, product-assoc, product-lt, one-product, product-inverse, product-zero, product-by-zero, zero-product}
+use Rattle.gf16.proofs.Laws.{
+  ring,
+  ring2,
+  sum-lt,
+  sum-same,
+  sum-zero,
+  zero-sum,
+  product-comm,
+  product-assoc,
+  product-lt,
+  one-product,
+  product-inverse,
+  product-zero,
+  product-by-zero,
+  zero-product,
+}
 use Rattle.code_word_laws.specs.Polynomial.{value}
 use Rattle.code_word_laws.specs.Corrector.{Recurs, minorTwo, triple, minor}
 use Rattle.code_word_laws.proofs.Places.{place, total, dot, total-dot, total-of-zeros, Rising, vanish}
@@ -54,8 +69,10 @@ gather a b c d = simp (sum-zero, ring)
 pub recurs : (l0 l1 l2 l3 : ℕ) (s : ℕ → ℕ) → l3 < 16 → l3 ≢ 0 → ((n : ℕ) → s n < 16) → ((j : ℕ) → dot (l0 ∷ l1 ∷ l2 ∷ l3 ∷ []) s j ≡ 0)
     → Recurs (product (inverse l3) l2) (product (inverse l3) l1) (product (inverse l3) l0) s
 recurs l0 l1 l2 l3 s h n b e j =
-    divided l3 (s (suc (suc (suc j)))) (sum (product l0 (s j)) (sum (product l1 (s (suc j))) (product l2 (s (suc (suc j)))))) h n (b (suc (suc (suc j))))
-    (sym (sum-same _ _ (sym (gather (product l0 (s j)) (product l1 (s (suc j))) (product l2 (s (suc (suc j)))) (product l3 (s (suc (suc (suc j)))))) ∙ e j)))
+    divided l3 (s (suc (suc (suc j)))) (sum (product l0 (s j)) (sum (product l1 (s (suc j))) (product l2 (s (suc (suc j)))))) h n
+    (b (suc (suc (suc j))))
+    (sym (sum-same _ _ (sym (gather (product l0 (s j)) (product l1 (s (suc j))) (product l2 (s (suc (suc j))))
+    (product l3 (s (suc (suc (suc j)))))) ∙ e j)))
     ∙ spread (inverse l3) l0 l1 l2 (s j) (s (suc j)) (s (suc (suc j)))
 
 -- a shorter vector is one that starts with zeros
@@ -96,7 +113,8 @@ pair-one s1 s2 s3 s4 = simp ring2
 pair-two : (s1 s2 s3 s4 : ℕ) → short (minorTwo s2 s3 s3 s4) s2 (minorTwo s1 s3 s2 s4) s3 (minorTwo s1 s2 s2 s3) s4 ≡ 0
 pair-two s1 s2 s3 s4 = simp ring2
 
-pair-three : (s1 s2 s3 s4 s5 : ℕ) → short (minorTwo s2 s3 s3 s4) s3 (minorTwo s1 s3 s2 s4) s4 (minorTwo s1 s2 s2 s3) s5 ≡ minor s1 s2 s3 s4 s5
+pair-three : (s1 s2 s3 s4 s5 : ℕ) → short (minorTwo s2 s3 s3 s4) s3 (minorTwo s1 s3 s2 s4) s4 (minorTwo s1 s2 s2 s3) s5 ≡ minor s1 s2 s3 s4
+    s5
 pair-three s1 s2 s3 s4 s5 = simp ring2
 
 -- where the 2 by 2 and the 3 by 3 leading minors are 0, so is the minor between them
@@ -125,7 +143,8 @@ module _ (s1 s2 s3 s4 s5 s6 : ℕ) where
 
   pub locator-three : minor s1 s2 s3 s4 s5 ≢ 0
       → Follows 3 listed (product (inverse (minor s1 s2 s3 s4 s5)) (minor2 s1 s2 s3 s4 s5 s6))
-      (product (inverse (minor s1 s2 s3 s4 s5)) (minor1 s1 s2 s3 s4 s5 s6)) (product (inverse (minor s1 s2 s3 s4 s5)) (minor0 s1 s2 s3 s4 s5 s6)) s3
+      (product (inverse (minor s1 s2 s3 s4 s5)) (minor1 s1 s2 s3 s4 s5 s6))
+      (product (inverse (minor s1 s2 s3 s4 s5)) (minor0 s1 s2 s3 s4 s5 s6)) s3
   locator-three nz f ks r n h = (
     recurs (minor0 s1 s2 s3 s4 s5 s6) (minor1 s1 s2 s3 s4 s5 s6) (minor2 s1 s2 s3 s4 s5 s6) (minor s1 s2 s3 s4 s5) (λ i. total f i ks)
         (triple-lt (minorTwo s2 s3 s3 s4) s3 (minorTwo s1 s3 s2 s4) s4 (minorTwo s1 s2 s2 s3) s5) nz (λ i. total-lt f i ks)
@@ -139,12 +158,15 @@ module _ (s1 s2 s3 s4 s5 s6 : ℕ) where
       rows : (j : ℕ) → 0 < j → j ≤ 3 → dot vector (λ i. total f i ks) j ≡ 0
       rows zero p q = absurd (omega arith)
       rows (suc zero) p q = rw (h 0 (omega arith), h 1 (omega arith), h 2 (omega arith), h 3 (omega arith)) (row-one s1 s2 s3 s4 s5 s6)
-      rows (suc (suc zero)) p q = rw (h 1 (omega arith), h 2 (omega arith), h 3 (omega arith), h 4 (omega arith)) (row-two s1 s2 s3 s4 s5 s6)
-      rows (suc (suc (suc zero))) p q = rw (h 2 (omega arith), h 3 (omega arith), h 4 (omega arith), h 5 (omega arith)) (row-three s1 s2 s3 s4 s5 s6)
+      rows (suc (suc zero)) p q = rw (h 1 (omega arith), h 2 (omega arith), h 3 (omega arith), h 4 (omega arith))
+          (row-two s1 s2 s3 s4 s5 s6)
+      rows (suc (suc (suc zero))) p q = rw (h 2 (omega arith), h 3 (omega arith), h 4 (omega arith), h 5 (omega arith))
+          (row-three s1 s2 s3 s4 s5 s6)
       rows (suc (suc (suc (suc j)))) p q = absurd (omega arith)
 
   pub locator-two : (t : ℕ) → 2 ≤ t → t ≤ 3 → minorTwo s1 s2 s2 s3 ≢ 0 → (3 ≤ t → minor s1 s2 s3 s4 s5 ≡ 0)
-      → Follows t listed (product (inverse (minorTwo s1 s2 s2 s3)) (minorTwo s1 s3 s2 s4)) (product (inverse (minorTwo s1 s2 s2 s3)) (minorTwo s2 s3 s3 s4)) 0 s3
+      → Follows t listed (product (inverse (minorTwo s1 s2 s2 s3)) (minorTwo s1 s3 s2 s4))
+      (product (inverse (minorTwo s1 s2 s2 s3)) (minorTwo s2 s3 s3 s4)) 0 s3
   locator-two t from to nz top f ks r n h = (
     rw (product-by-zero (inverse (minorTwo s1 s2 s2 s3))) at
         (recurs 0 (minorTwo s2 s3 s3 s4) (minorTwo s1 s3 s2 s4) (minorTwo s1 s2 s2 s3) (λ i. total f i ks)
@@ -159,7 +181,8 @@ module _ (s1 s2 s3 s4 s5 s6 : ℕ) where
       rows zero p q = absurd (omega arith)
       rows (suc zero) p q = rw (h 0 (omega arith), h 1 (omega arith), h 2 (omega arith)) (pair-one s1 s2 s3 s4)
       rows (suc (suc zero)) p q = rw (h 1 (omega arith), h 2 (omega arith), h 3 (omega arith)) (pair-two s1 s2 s3 s4)
-      rows (suc (suc (suc zero))) p q = rw (h 2 (omega arith), h 3 (omega arith), h 4 (omega arith)) (pair-three s1 s2 s3 s4 s5 ∙ top (omega arith))
+      rows (suc (suc (suc zero))) p q = rw (h 2 (omega arith), h 3 (omega arith), h 4 (omega arith))
+          (pair-three s1 s2 s3 s4 s5 ∙ top (omega arith))
       rows (suc (suc (suc (suc j)))) p q = absurd (omega arith)
 
   -- where the leading minors of 2 and 3 rows are 0, so is the one between them
@@ -192,7 +215,8 @@ module _ (s1 s2 s3 s4 s5 s6 : ℕ) where
       rows zero p q = absurd (omega arith)
       rows (suc zero) p q = rw (h 0 (omega arith), h 1 (omega arith)) single-one
       rows (suc (suc zero)) p q = rw (h 1 (omega arith), h 2 (omega arith)) (single-two ∙ two (omega arith))
-      rows (suc (suc (suc zero))) p q = rw (h 2 (omega arith), h 3 (omega arith)) (single-three ∙ middle (two (omega arith)) (top (omega arith)))
+      rows (suc (suc (suc zero))) p q = rw (h 2 (omega arith), h 3 (omega arith))
+          (single-three ∙ middle (two (omega arith)) (top (omega arith)))
       rows (suc (suc (suc (suc j)))) p q = absurd (omega arith)
 
 second : (s2 s3 : ℕ) → s2 < 16 → minorTwo 0 s2 s2 s3 ≡ 0 → s2 ≡ 0
@@ -248,7 +272,8 @@ recurs-nothing r1 r2 r3 s e n =
     e (suc (suc (suc n)))
     ∙ sym (rw (e (suc n), e n, e (suc (suc n))) (simp (product-by-zero, sum-zero)))
 
-pub locator-one : (s1 s2 s3 s4 s5 s6 t u : ℕ) → 1 ≤ t → t ≤ 3 → s1 < 16 → (2 ≤ t → minorTwo s1 s2 s2 s3 ≡ 0) → (3 ≤ t → minor s1 s2 s3 s4 s5 ≡ 0)
+pub locator-one : (s1 s2 s3 s4 s5 s6 t u : ℕ) → 1 ≤ t → t ≤ 3 → s1 < 16 → (2 ≤ t → minorTwo s1 s2 s2 s3 ≡ 0)
+    → (3 ≤ t → minor s1 s2 s3 s4 s5 ≡ 0)
     → (t ≡ 1 → u ≡ product (product (inverse s1) s2) s2) → (2 ≤ t → u ≡ s3)
     → Follows t (s1 ∷ s2 ∷ s3 ∷ s4 ∷ s5 ∷ s6 ∷ []) (product (inverse s1) s2) 0 0 u
 locator-one zero s2 s3 s4 s5 s6 t u from to l two top a b f ks r n h =

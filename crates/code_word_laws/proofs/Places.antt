@@ -10,7 +10,23 @@ use native.Mathlib.Omega.{arith}
 use native.Mathlib.Nat.{mod-eq-of-lt}
 use lib.ListN.{length}
 use Rattle.gf16.specs.Field.{sum, product, power}
-use Rattle.gf16.proofs.Laws.{ring, sum-lt, sum-same, sum-self, sum-zero, zero-sum, product-one, product-by-zero, product-zero, product-mod, zero-product, mod-product, power-lt, power-nonzero, power-injective}
+use Rattle.gf16.proofs.Laws.{
+  ring,
+  sum-lt,
+  sum-same,
+  sum-self,
+  sum-zero,
+  zero-sum,
+  product-one,
+  product-by-zero,
+  product-zero,
+  product-mod,
+  zero-product,
+  mod-product,
+  power-lt,
+  power-nonzero,
+  power-injective,
+}
 use Rattle.code_word_laws.specs.Polynomial.{value}
 
 -- the field element of place k
@@ -76,7 +92,8 @@ total-of-zeros f j (k ∷ ks) z = ap₂ sum (none-at (f k) (power (place k) j) (
 
 -- the polynomial p + x, at x = q
 pub linear : (p q : ℕ) → q < 16 → value (p ∷ 1 ∷ []) q ≡ sum p q
-linear p q h = ap (λ (x : ℕ). sum p x) (ap (λ (x : ℕ). product q (sum 1 x)) (product-by-zero q) ∙ ap (λ (x : ℕ). product q x) (sum-zero 1) ∙ product-one q ∙ mod-eq-of-lt h)
+linear p q h = ap (λ (x : ℕ). sum p x) (ap (λ (x : ℕ). product q (sum 1 x)) (product-by-zero q) ∙ ap (λ (x : ℕ). product q x) (sum-zero 1)
+    ∙ product-one q ∙ mod-eq-of-lt h)
 
 -- the weight that takes place k out
 abbrev weighted : (ℕ → ℕ) → ℕ → ℕ → ℕ
@@ -92,7 +109,8 @@ other k i h b e = let s : k ≡ i = power-injective k i (omega arith) b (sum-sam
 unweighted : (f : ℕ → ℕ) (k i : ℕ) → k < i → i < 15 → weighted f k i % 16 ≡ 0 → f i % 16 ≡ 0
 unweighted f k i h b e =
     product-zero (f i) (sum (place k) (place i)) (sum-lt (place k) (place i) (power-lt 2 k) (power-lt 2 i)) (other k i h b)
-    (ap (λ (x : ℕ). product (f i) x) (sym (linear (place k) (place i) (power-lt 2 i))) ∙ sym (product-mod (f i) (value (place k ∷ 1 ∷ []) (place i))) ∙ e)
+    (ap (λ (x : ℕ). product (f i) x) (sym (linear (place k) (place i) (power-lt 2 i)))
+    ∙ sym (product-mod (f i) (value (place k ∷ 1 ∷ []) (place i))) ∙ e)
 
 unweighted-all : (f : ℕ → ℕ) (k b : ℕ) (ks : List ℕ) → k < b → Rising b ks → Zero (weighted f k) ks → Zero f ks
 unweighted-all f k b [] h r z = tt
@@ -124,4 +142,6 @@ vanished f k ks h e z = (product-zero (f k) (place k) (power-lt 2 k) (power-nonz
 pub vanish : (ks : List ℕ) (b : ℕ) (f : ℕ → ℕ) → Rising b ks
     → ((j : ℕ) → 0 < j → j ≤ length ks → total f j ks ≡ 0) → Zero f ks
 vanish [] b f r h = tt
-vanish (k ∷ ks) b f r h = vanished f k ks (r .1) (h 1 (omega arith) (omega arith)) (unweighted-all f k (suc k) ks (omega arith) (r .2) (vanish ks (suc k) (weighted f k) (r .2) (λ j p q. taken-out f k j ks (h j p (omega arith)) (h (suc j) (omega arith) (omega arith)))))
+vanish (k ∷ ks) b f r h = vanished f k ks (r .1) (h 1 (omega arith) (omega arith))
+    (unweighted-all f k (suc k) ks (omega arith) (r .2)
+    (vanish ks (suc k) (weighted f k) (r .2) (λ j p q. taken-out f k j ks (h j p (omega arith)) (h (suc j) (omega arith) (omega arith)))))

@@ -15,7 +15,18 @@ use lib.ListN.{length, getD, take, drop, take-append-drop, List·getD-eq-default
 use lib.Seq.{getD-drop, drop-drop, length-take-le}
 use borrow.Author.Tests.{ltb-true, ltb-false}
 use Rattle.gf16.specs.Field.{sum, product, power}
-use Rattle.gf16.proofs.Laws.{ring, sum-zero, zero-sum, one-product, product-one, product-by-zero, zero-product, product-comm, sum-same, sum-self}
+use Rattle.gf16.proofs.Laws.{
+  ring,
+  sum-zero,
+  zero-sum,
+  one-product,
+  product-one,
+  product-by-zero,
+  zero-product,
+  product-comm,
+  sum-same,
+  sum-self,
+}
 use Rattle.code_word_laws.specs.Polynomial.{value, scaled, rooted}
 use Rattle.code_word_laws.specs.Word.{SemiOctets}
 use Rattle.code_word_laws.specs.Make.{CodeWord}
@@ -23,7 +34,18 @@ use Rattle.code_word_laws.specs.Register.{gathered, row, rowsFrom, feedb
 use Rattle.code_word_laws.specs.Packed.{nibble}
 use Rattle.code_word_laws.proofs.Packed.{nibble-xor, nibble-zero}
 use Rattle.code_word_laws.proofs.Distance.{value-lt}
-use Rattle.code_word_laws.proofs.Division.{Monic, rooted-monic, rooted-root, roots-valid, value-append, value-scaled, value-same, getD-scaled, scaled-semi-octets, take-semi-octets}
+use Rattle.code_word_laws.proofs.Division.{
+  Monic,
+  rooted-monic,
+  rooted-root,
+  roots-valid,
+  value-append,
+  value-scaled,
+  value-same,
+  getD-scaled,
+  scaled-semi-octets,
+  take-semi-octets,
+}
 
 -- ---- the value of what a number holds
 
@@ -99,14 +121,16 @@ monic-long n g m = go (ltb n (length g)) refl
   where
     go : (b : Bool) → ltb n (length g) ≡ b → n < length g
     go true e = ltb-true n (length g) e
-    go false e = let z : _≡_ {A = ℕ} 0 1 = sym (List·getD-eq-default g 0 {n = n} (ltb-false n (length g) e)) ∙ m .leads in absurd (omega arith)
+    go false e = let z : _≡_ {A = ℕ} 0 1 = sym (List·getD-eq-default g 0 {n = n} (ltb-false n (length g) e)) ∙ m .leads in
+        absurd (omega arith)
 
 -- the coefficients of f times the generator below power n
 abbrev lows : ℕ → ℕ → List ℕ
 lows n f = take n (scaled f (rooted n))
 
 lows-length : (n f : ℕ) → length (lows n f) ≡ n
-lows-length n f = length-take-le n (scaled f (rooted n)) (omega (arith, scaled-length f (rooted n), monic-long n (rooted n) (rooted-monic n)))
+lows-length n f = length-take-le n (scaled f (rooted n))
+    (omega (arith, scaled-length f (rooted n), monic-long n (rooted n) (rooted-monic n)))
 
 lows-semi-octets : (n f : ℕ) → SemiOctets (lows n f)
 lows-semi-octets n f = take-semi-octets n (scaled f (rooted n)) (scaled-semi-octets f (rooted n))
@@ -177,11 +201,13 @@ pub fed-empty : (n r c : ℕ) → c < 16 → Empty n r → Empty n (fed (feedbac
 fed-empty n r c h e j i =
     ap (λ (v : ℕ). nibble j v) (fed-is n r c h)
     ∙ nibble-xor j (bitXor (r / 16) (row n c)) (row n (r % 16))
-    ∙ ap₂ sum (nibble-xor j (r / 16) (row n c) ∙ ap₂ sum (e (suc j) (omega arith)) (row-empty n c j i) ∙ sum-zero 0) (row-empty n (r % 16) j i)
+    ∙ ap₂ sum (nibble-xor j (r / 16) (row n c) ∙ ap₂ sum (e (suc j) (omega arith)) (row-empty n c j i) ∙ sum-zero 0)
+    (row-empty n (r % 16) j i)
     ∙ sum-zero 0
 
 feed-step : (x v a c p : ℕ)
-    → sum (sum (product x v) (product c (product x p))) (product a (product x p)) ≡ sum (product x (sum (product a p) v)) (product c (product x p))
+    → sum (sum (product x v) (product c (product x p))) (product a (product x p)) ≡ sum (product x (sum (product a p) v))
+    (product c (product x p))
 feed-step x v a c p = simp ring
 
 -- the register times x, and the new semi-octet at power n
@@ -194,7 +220,8 @@ fed-held n r c x h e z =
     ∙ ap₂ sum
     (held-xor (suc n) (r / 16) (row (suc n) c) x
     ∙ ap₂ sum
-    (held-next n (r / 16) x ∙ ap (λ (v : ℕ). sum (product x (held n (r / 16) x)) v) (e (suc n) (omega arith)) ∙ sum-zero (product x (held n (r / 16) x)))
+    (held-next n (r / 16) x ∙ ap (λ (v : ℕ). sum (product x (held n (r / 16) x)) v) (e (suc n) (omega arith))
+    ∙ sum-zero (product x (held n (r / 16) x)))
     (row-held (suc n) c x h z))
     (row-held (suc n) (r % 16) x (omega arith) z)
     ∙ feed-step x (held n (r / 16) x) (r % 16) c (power x n)
@@ -229,9 +256,11 @@ put-checks-step v p a x w = simp ring
 pub with-checks-value : (n r : ℕ) (message : List ℕ) (x : ℕ) → SemiOctets message
     → value (withChecks n r message) x ≡ sum (held n r x) (product (power x n) (value message x))
 unfolding withChecks power
-with-checks-value zero r message x s = sym (zero-sum (product 1 (value message x)) ∙ one-product (value message x) ∙ mod-eq-of-lt (value-lt message x s))
+with-checks-value zero r message x s = sym (zero-sum (product 1 (value message x)) ∙ one-product (value message x)
+    ∙ mod-eq-of-lt (value-lt message x s))
 with-checks-value (suc n) r message x s =
-    with-checks-value n (r / 16) (r % 16 ∷ message) x (omega arith, s) ∙ put-checks-step (held n (r / 16) x) (power x n) (r % 16) x (value message x)
+    with-checks-value n (r / 16) (r % 16 ∷ message) x (omega arith, s)
+    ∙ put-checks-step (held n (r / 16) x) (power x n) (r % 16) x (value message x)
 
 pub with-checks-semi-octets : (n r : ℕ) (message : List ℕ) → SemiOctets message → SemiOctets (withChecks n r message)
 unfolding withChecks
@@ -241,7 +270,8 @@ with-checks-semi-octets (suc n) r message s = with-checks-semi-octets n (r / 16)
 pub with-checks-length : (n r : ℕ) (message : List ℕ) → length (withChecks n r message) ≡ n + length message
 unfolding withChecks
 with-checks-length zero r message = sym (zero-add (length message))
-with-checks-length (suc n) r message = with-checks-length n (r / 16) (r % 16 ∷ message) ∙ add-suc n (length message) ∙ sym (suc-add n (length message))
+with-checks-length (suc n) r message = with-checks-length n (r / 16) (r % 16 ∷ message) ∙ add-suc n (length message)
+    ∙ sym (suc-add n (length message))
 
 pub with-checks-holds : (n r : ℕ) (message : List ℕ) → drop n (withChecks n r message) ≡ message
 unfolding withChecks
@@ -255,7 +285,8 @@ with-checks-holds (suc n) r message =
 abbrev pub Leaves : ℕ → List ℕ → ℕ → Type 0
 Leaves n message r = (j : ℕ) → 0 < j → j ≤ n → held n r (power 2 j) ≡ product (power (power 2 j) n) (value message (power 2 j))
 
-with-checks-root : (n r : ℕ) (message : List ℕ) → SemiOctets message → Leaves n message r → (j : ℕ) → 0 < j → j ≤ n → value (withChecks n r message) (power 2 j) ≡ 0
+with-checks-root : (n r : ℕ) (message : List ℕ) → SemiOctets message → Leaves n message r → (j : ℕ) → 0 < j → j ≤ n
+    → value (withChecks n r message) (power 2 j) ≡ 0
 with-checks-root n r message s l j p h =
     let x = power 2 j in
     with-checks-value n r message x s
@@ -263,7 +294,8 @@ with-checks-root n r message s l j p h =
     ∙ sum-self (product (power x n) (value message x))
 
 -- the digits of such an r, in front of the data, are the code word
-pub leaves-codes : (d r : ℕ) (message : List ℕ) → 1 ≤ d → d ≤ 16 → SemiOctets message → Leaves (d - 1) message r → CodeWord d message (withChecks (d - 1) r message)
+pub leaves-codes : (d r : ℕ) (message : List ℕ) → 1 ≤ d → d ≤ 16 → SemiOctets message → Leaves (d - 1) message r
+    → CodeWord d message (withChecks (d - 1) r message)
 leaves-codes d r message a b s l =
     let n = d - 1 in
     let t = with-checks-semi-octets n r message s in

@@ -13,7 +13,27 @@ use lib.ListN.{length, getD}
 use borrow.Author.Tests.{eqb-true, eqb-false, ne-eqb}
 use Rattle.laws.proofs.Every.{at}
 use Rattle.gf16.specs.Field.{sum, product, power, expanded, lowered, reduced}
-use Rattle.gf16.proofs.Laws.{ring, ring2, sum-lt, sum-self, sum-same, sum-zero, zero-sum, product-comm, product-lt, product-one, product-mod, product-zero, product-by-zero, mod-product, zero-product, power-lt, power-add, power-power, power-injective}
+use Rattle.gf16.proofs.Laws.{
+  ring,
+  ring2,
+  sum-lt,
+  sum-self,
+  sum-same,
+  sum-zero,
+  zero-sum,
+  product-comm,
+  product-lt,
+  product-one,
+  product-mod,
+  product-zero,
+  product-by-zero,
+  mod-product,
+  zero-product,
+  power-lt,
+  power-add,
+  power-power,
+  power-injective,
+}
 use Rattle.code_word_laws.specs.Word.{SemiOctets}
 use Rattle.code_word_laws.specs.Corrector.{back}
 use Rattle.code_word_laws.proofs.Places.{place, total, Rising}
@@ -27,7 +47,8 @@ mixed x y (suc m) = sum (mixed x y m) (product (power x (suc m)) (power y (15 - 
 
 mixed-lt : (x y m : ℕ) → mixed x y m < 16
 mixed-lt x y zero = omega arith
-mixed-lt x y (suc m) = sum-lt (mixed x y m) (product (power x (suc m)) (power y (15 - suc m))) (mixed-lt x y m) (product-lt (power x (suc m)) (power y (15 - suc m)))
+mixed-lt x y (suc m) = sum-lt (mixed x y m) (product (power x (suc m)) (power y (15 - suc m))) (mixed-lt x y m)
+    (product-lt (power x (suc m)) (power y (15 - suc m)))
 
 telescope : (x y a b c s : ℕ) → product (sum x y) s ≡ sum (product a (product y b)) c
     → product (sum x y) (sum s (product a b)) ≡ sum (product (product x a) b) c
@@ -40,12 +61,14 @@ telescope x y a b c s e = distribute x y s (product a b) ∙ ap (λ (z : ℕ). s
     rest x y a b c = simp ring2
 
 -- times x + y it telescopes
-telescoped : (x y m : ℕ) → m ≤ 15 → product (sum x y) (mixed x y m) ≡ sum (product (power x (suc m)) (power y (15 - m))) (product x (power y 15))
+telescoped : (x y m : ℕ) → m ≤ 15 → product (sum x y) (mixed x y m) ≡ sum (product (power x (suc m)) (power y (15 - m)))
+    (product x (power y 15))
 unfolding power
 telescoped x y zero h =
     product-by-zero (sum x y)
     ∙ sym (sum-self (product x (power y 15)))
-    ∙ ap (λ (z : ℕ). sum z (product x (power y 15))) (sym (ap (λ (z : ℕ). product z (power y 15)) (product-one x) ∙ mod-product x (power y 15)))
+    ∙ ap (λ (z : ℕ). sum z (product x (power y 15)))
+    (sym (ap (λ (z : ℕ). product z (power y 15)) (product-one x) ∙ mod-product x (power y 15)))
 telescoped x y (suc m) h =
     telescope x y (power x (suc m)) (power y (15 - suc m)) (product x (power y 15)) (mixed x y m)
     (telescoped x y m (omega arith) ∙ ap (λ (z : ℕ). sum (product (power x (suc m)) (power y z)) (product x (power y 15))) up)
@@ -73,7 +96,8 @@ mixed-other i k hi hk n =
     sym (mod-eq-of-lt (mixed-lt (place i) (place k) 15))
     ∙ product-zero (mixed (place i) (place k) 15) (sum (place i) (place k)) (sum-lt (place i) (place k) (power-lt 2 i) (power-lt 2 k))
     (λ e. n (power-injective i k hi hk (sum-same (place i) (place k) e)))
-    (product-comm (mixed (place i) (place k) 15) (sum (place i) (place k)) ∙ telescoped (place i) (place k) 15 (omega arith) ∙ ends i k hi hk)
+    (product-comm (mixed (place i) (place k) 15) (sum (place i) (place k)) ∙ telescoped (place i) (place k) 15 (omega arith)
+    ∙ ends i k hi hk)
 
 -- one for each term, added up
 abbrev ones : ℕ → ℕ
@@ -83,7 +107,8 @@ ones (suc m) = sum (ones m) 1
 mixed-own : (k m : ℕ) → k < 15 → m ≤ 15 → mixed (place k) (place k) m ≡ ones m
 mixed-own k zero hk h = refl
 mixed-own k (suc m) hk h =
-    ap₂ sum (mixed-own k m hk (omega arith)) (sym (power-add (place k) (suc m) (15 - suc m)) ∙ ap (λ (z : ℕ). power (place k) z) whole-sum ∙ whole k hk)
+    ap₂ sum (mixed-own k m hk (omega arith)) (sym (power-add (place k) (suc m) (15 - suc m)) ∙ ap (λ (z : ℕ). power (place k) z) whole-sum
+    ∙ whole k hk)
   where
     whole-sum : suc m + (15 - suc m) ≡ 15
     whole-sum = omega arith
@@ -137,14 +162,16 @@ back-total f (i ∷ ks) b k r h =
 picked-below : (f : ℕ → ℕ) (k b : ℕ) (ks : List ℕ) → k < b → Rising b ks → picked f k ks ≡ 0
 picked-below f k b [] h r = refl
 picked-below f k b (i ∷ ks) h r =
-    ap₂ sum (ap (λ (e : Bool). product (f i) (one-if e)) (ne-eqb i k (λ e. omega arith)) ∙ product-by-zero (f i)) (picked-below f k (suc i) ks (omega arith) (r .2))
+    ap₂ sum (ap (λ (e : Bool). product (f i) (one-if e)) (ne-eqb i k (λ e. omega arith)) ∙ product-by-zero (f i))
+    (picked-below f k (suc i) ks (omega arith) (r .2))
     ∙ sum-zero 0
 
 -- the first place of the support is k, or a later one is
 first-or-later : (f : ℕ → ℕ) (b k : ℕ) (ks : List ℕ) → Rising (suc b) ks → b ≤ k → f b < 16 → (suc b ≤ k → picked f k ks ≡ f k)
     → (e : Bool) → eqb b k ≡ e → sum (product (f b) (one-if e)) (picked f k ks) ≡ f k
 first-or-later f b k ks r h l later true e =
-    ap₂ sum (product-one (f b) ∙ mod-eq-of-lt l) (picked-below f k (suc b) ks (omega (arith, eqb-true b k e)) r) ∙ sum-zero (f b) ∙ ap f (eqb-true b k e)
+    ap₂ sum (product-one (f b) ∙ mod-eq-of-lt l) (picked-below f k (suc b) ks (omega (arith, eqb-true b k e)) r) ∙ sum-zero (f b)
+    ∙ ap f (eqb-true b k e)
 first-or-later f b k ks r h l later false e =
     let n : (b ≡ k → ⊥) = eqb-false b k e in
     ap₂ sum (product-by-zero (f b)) (later (omega arith)) ∙ zero-sum (f k)
@@ -154,7 +181,8 @@ picked-support : (es : List ℕ) (b k : ℕ) (f : ℕ → ℕ) → SemiOctets es
 picked-support [] b k f s l h m = let e : b + (k - b) ≡ k = omega arith in sym (h (k - b)) ∙ ap f e
 picked-support (zero ∷ es) b k f s l h m =
     let e : f b ≡ 0 = ap f (sym (add-zero b)) ∙ h 0 in
-    sym (ap (λ (x : ℕ). sum x (picked f k (support (suc b) es))) (ap (λ (x : ℕ). product x (one-if (eqb b k))) e ∙ zero-product (one-if (eqb b k))) ∙ zero-sum (picked f k (support (suc b) es)))
+    sym (ap (λ (x : ℕ). sum x (picked f k (support (suc b) es)))
+    (ap (λ (x : ℕ). product x (one-if (eqb b k))) e ∙ zero-product (one-if (eqb b k))) ∙ zero-sum (picked f k (support (suc b) es)))
     ∙ first-or-later f b k (support (suc b) es) (support-rising es (suc b) (omega arith)) m (omega arith)
     (λ n. picked-support es (suc b) k f (s .1) (omega arith) (shift f b 0 es h) n) (eqb b k) refl
 picked-support (suc c ∷ es) b k f s l h m =

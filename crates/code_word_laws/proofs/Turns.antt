@@ -39,11 +39,13 @@ SpectrumTo w i s = (j : ℕ) → j < 15 → nibble j s ≡ value (take i w) (pow
 pub syndromes-first : (w : List ℕ) → SpectrumTo w 0 0
 syndromes-first w j h = nibble-zero j
 
-pub syndromes-next : (w : List ℕ) (i s r : ℕ) → i < length w → SemiOctets w → SpectrumTo w i s → Row i (getD w i 0) r → SpectrumTo w (i + 1) (bitXor s r)
+pub syndromes-next : (w : List ℕ) (i s r : ℕ) → i < length w → SemiOctets w → SpectrumTo w i s → Row i (getD w i 0) r
+    → SpectrumTo w (i + 1) (bitXor s r)
 syndromes-next w i s r h semi e row j l =
     nibble-xor j s r
     ∙ ap₂ sum (e j l) (row j l ∙ ap (λ (x : ℕ). product (getD w i 0) x) (power-power 2 i j))
-    ∙ ap (λ (n : ℕ). sum (value (take i w) (power 2 j)) (product (getD w i 0) (power (power 2 j) n))) (sym (length-take-le i w (omega arith)))
+    ∙ ap (λ (n : ℕ). sum (value (take i w) (power 2 j)) (product (getD w i 0) (power (power 2 j) n)))
+    (sym (length-take-le i w (omega arith)))
     ∙ sym (value-snoc (take i w) (getD w i 0) (power 2 j) (semi-octet-at w i semi))
     ∙ ap (λ (l : List ℕ). value l (power 2 j)) (sym (take-suc w i 0 h) ∙ ap (λ (n : ℕ). take n w) (sym (add-one i)))
 
@@ -82,7 +84,8 @@ pub clears : (n s w : ℕ) → w ≡ 16 ^ n → Decides (Clear n s) (eqb (s / 16
 clears n s w e =
     record {
       holds = λ t. clear-low n s (ap (λ (m : ℕ). s / 16 % m) (sym e) ∙ eqb-true (s / 16 % w) 0 t);
-      fails = λ t c. eqb-false (s / 16 % w) 0 t (ap (λ (m : ℕ). s / 16 % m) e ∙ zero-low n (s / 16) (λ j b. c (suc j) (omega arith) (omega arith)));
+      fails = λ t c. eqb-false (s / 16 % w) 0 t (ap (λ (m : ℕ). s / 16 % m) e
+          ∙ zero-low n (s / 16) (λ j b. c (suc j) (omega arith) (omega arith)));
     }
 
 -- ---- minors
@@ -97,8 +100,11 @@ pub tripled-is : (a x b y c z : ℕ) {p q r : ℕ} → p ≡ product a x → q �
     → (bitXor (bitXor p q) r ≡ triple a x b y c z) × (bitXor (bitXor p q) r < 16)
 unfolding sum
 tripled-is a x b y c z e f g =
-    let s = ap₂ bitXor (ap₂ bitXor e f) g in
-    (s, rw s (xor-lt 4 (bitXor (product a x) (product b y)) (product c z) (xor-lt 4 (product a x) (product b y) (product-lt a x) (product-lt b y)) (product-lt c z)))
+    let s = ap₂ bitXor (ap₂ bitXor e f) g in (
+      s,
+      rw s (xor-lt 4 (bitXor (product a x) (product b y)) (product c z)
+          (xor-lt 4 (product a x) (product b y) (product-lt a x) (product-lt b y)) (product-lt c z)),
+    )
 
 -- ---- the transform, a sum a turn
 
@@ -117,7 +123,8 @@ module _ (r1 r2 r3 s1 s2 u : ℕ) where
     λ k l.
         nibble-xor k (bitXor x y) z
         ∙ ap₂ sum (nibble-xor k x y ∙ ap₂ sum (f k l) (g k l)) (h k l)
-        ∙ sym (rw (e1, e2, e3) (ap (λ (v : ℕ). sum (sum v (product s2 (power (power 2 13) k))) (product u (power (power 2 12) k))) (zero-sum (product s1 (power (power 2 14) k))))),
+        ∙ sym (rw (e1, e2, e3) (ap (λ (v : ℕ). sum (sum v (product s2 (power (power 2 13) k))) (product u (power (power 2 12) k)))
+        (zero-sum (product s1 (power (power 2 14) k))))),
   )
 
   pub held-next : {a b c e x r : ℕ} (q n : ℕ) → n + q ≡ 12 → 0 < n → x ≡ triple r2 b r3 c r1 a → Row (n - 1) x r
@@ -179,7 +186,8 @@ taken-step old e i rest count now d v h ed ev k =
           ∙ ap (λ (l : List ℕ). take i now ++ takenOff l rest) (sym o)
           ∙ k .whole;
       counted =
-          let was : count + (unequal (eqb (getD old i 0) (sum (getD old i 0) (rest % 16))) + apart (drop (suc i) old) (takenOff (drop (suc i) old) (rest / 16))) ≡ apart old (takenOff old e)
+          let was : count + (unequal (eqb (getD old i 0) (sum (getD old i 0) (rest % 16))) + apart (drop (suc i) old)
+          (takenOff (drop (suc i) old) (rest / 16))) ≡ apart old (takenOff old e)
           = rw o at (k .counted) in
           let one = changed (getD old i 0) (rest % 16) low in
           let same-digit : (d + 15) / 16 ≡ (rest % 16 + 15) / 16 = ap (λ (x : ℕ). (x + 15) / 16) ed in
@@ -187,7 +195,8 @@ taken-step old e i rest count now d v h ed ev k =
       few = let f = k .few in omega arith;
     }
 
-pub taken-next : (old : List ℕ) (e i rest count : ℕ) (now : List ℕ) {d : ℕ} → i < length old → d ≡ rest % 16 → TakenTo old e i rest count now
+pub taken-next : (old : List ℕ) (e i rest count : ℕ) (now : List ℕ) {d : ℕ} → i < length old → d ≡ rest % 16
+    → TakenTo old e i rest count now
     → TakenTo old e (i + 1) (rest / 16) (count + (d + 15) / 16) (set now i (bitXor (getD now i 0) d))
 unfolding sum
 taken-next old e i rest count now {d} h ed k =
@@ -198,6 +207,7 @@ pub taken-last : (old : List ℕ) (e i rest count : ℕ) (now : List ℕ) → le
 taken-last old e i rest count now h k =
     let none : drop i old ≡ [] = drop-of-length-le old h in
     let all : now ≡ takenOff old e =
-    sym (take-append-drop i now) ∙ ap (λ (l : List ℕ). take i now ++ l) (k .behind ∙ none ∙ sym (ap (λ (l : List ℕ). takenOff l rest) none)) ∙ k .whole in
+    sym (take-append-drop i now) ∙ ap (λ (l : List ℕ). take i now ++ l) (k .behind ∙ none ∙ sym (ap (λ (l : List ℕ). takenOff l rest) none))
+    ∙ k .whole in
     let total : count + 0 ≡ apart old (takenOff old e) = rw none at (k .counted) in
     (all, sym (add-zero count) ∙ total ∙ ap (λ (l : List ℕ). apart old l) (sym all))

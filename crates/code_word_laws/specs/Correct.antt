@@ -19,7 +19,8 @@ pub record Near (mode : ℕ) (old w : List ℕ) : Type 0 where
   pub valid : Valid (distance mode) w
   pub near : apart old w < mode
 
--- the word left and the count, or m for none: the only such word with the count of places in which the two differ, or the word as it was lent
+-- the word left and the count, or m for none: the only such word with the count of places in which the two differ, or the word as it was
+-- lent
 pub record WordCorrected (mode : ℕ) (old new : List ℕ) (count : ℕ) : Type 0 where
   pub found : count < mode → Near mode old new
   pub only : count < mode → (w : List ℕ) → Near mode old w → w ≡ new

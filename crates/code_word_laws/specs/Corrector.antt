@@ -18,7 +18,8 @@ use Rattle.code_word_laws.specs.Packed.{nibble}
 abbrev pub numberAt : List ℕ → ℕ → ℕ
 numberAt t i = getD t (2 * i) 0 + getD t (2 * i + 1) 0 * 4294967296
 
--- the table that the steps are lent: number 16 a + b has the digits b times 2^(a j) for j below 15, and a times b as digit 15, the highest of its high half
+-- the table that the steps are lent: number 16 a + b has the digits b times 2^(a j) for j below 15, and a times b as digit 15, the highest
+-- of its high half
 pub record Table (t : List ℕ) : Type 0 where
   pub spread : (a b j : ℕ) → a < 15 → b < 16 → j < 15 → nibble j (numberAt t (16 * a + b)) ≡ product b (power (power 2 a) j)
   pub times : (a b : ℕ) → a < 16 → b < 16 → getD t (2 * (16 * a + b) + 1) 0 / 268435456 ≡ product a b

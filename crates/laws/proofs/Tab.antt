@@ -6,10 +6,16 @@ use Prim.Native.Nat.{ℕ, zero, suc, _+_, _*_, _-_, _≤_, _<_}
 use native.Mathlib.Omega.{arith}
 use native.Mathlib.Nat.{suc-mul, add-zero, zero-add, le-of-eq}
 use lib.ListN.{length, getD, take, drop}
-use lib.Seq.{ext-getD}
+use lib.Seq.{drop-cons, ext-getD}
 use Rattle.laws.specs.Tab.{tab, total, Below}
 
 -- ---- lists
+
+-- a list from one place earlier on
+pub drop-back : (w : List ℕ) (i : ℕ) → 0 < i → i ≤ length w → drop (i - 1) w ≡ getD w (i - 1) 0 ∷ drop i w
+drop-back w i p h =
+    let e : suc (i - 1) ≡ i = omega arith in
+    drop-cons w (i - 1) 0 (omega arith) ∙ ap (λ (k : ℕ). getD w (i - 1) 0 ∷ drop k w) e
 
 pub length-tab : (f : ℕ → ℕ) (n : ℕ) → length (tab f n) ≡ n
 unfolding tab

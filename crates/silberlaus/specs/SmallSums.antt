@@ -29,12 +29,14 @@ pub record SmallSums (at24 at48 : Setting) : Type 0 where
   -- "2 x 9 = 1 and 6 x 11 = 15 in the field"
   pub products : (product 2 9 ≡ 1) × (product 6 11 ≡ 15)
   -- "the three polynomials"
-  pub polynomials : (generator 3 ≡ 8 ∷ 6 ∷ 1 ∷ []) × (generator 5 ≡ 7 ∷ 8 ∷ 12 ∷ 13 ∷ 1 ∷ []) × (generator 7 ≡ 12 ∷ 10 ∷ 12 ∷ 3 ∷ 9 ∷ 7 ∷ 1 ∷ [])
+  pub polynomials : (generator 3 ≡ 8 ∷ 6 ∷ 1 ∷ []) × (generator 5 ≡ 7 ∷ 8 ∷ 12 ∷ 13 ∷ 1 ∷ [])
+      × (generator 7 ≡ 12 ∷ 10 ∷ 12 ∷ 3 ∷ 9 ∷ 7 ∷ 1 ∷ [])
   -- "word counts of slots 40, 80 and 400"
   pub counts : (words 40 ≡ 6) × (words 80 ≡ 11) × (words 400 ≡ 54)
   -- "slot 40 has lengths 14, 14, 13, 13, 13, 13"
   pub lengths :
-      (wordLength 40 0 ≡ 14) × (wordLength 40 1 ≡ 14) × (wordLength 40 2 ≡ 13) × (wordLength 40 3 ≡ 13) × (wordLength 40 4 ≡ 13) × (wordLength 40 5 ≡ 13)
+      (wordLength 40 0 ≡ 14) × (wordLength 40 1 ≡ 14) × (wordLength 40 2 ≡ 13) × (wordLength 40 3 ≡ 13) × (wordLength 40 4 ≡ 13)
+      × (wordLength 40 5 ≡ 13)
   -- "context 255 with pair (3, 3) at level 1 gives 253"
   pub context : contextOf 255 3 3 1 ≡ 253
   -- "level 13 with all bits set gives 32,767": an escape whose two bits are set lengthens both values by one ..

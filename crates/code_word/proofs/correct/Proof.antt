@@ -3,7 +3,7 @@ use native.Mathlib.Omega.{arith}
 use lib.ListN.{length}
 use borrow.Author.Needs.{needs}
 use Rattle.code_word_laws.specs.Word.{SemiOctets, Fits}
-use Rattle.code_word_laws.proofs.Promises.{told-no, told-yes, not-corrected-fitting, not-corrected-elements, is-none, is-corrected}
+use Rattle.code_word.proofs.Promises.{told-no, told-yes, not-corrected-fitting, not-corrected-elements, is-none, is-corrected}
 use Rattle.code_word.proofs.correct.Statement.{statement}
 use Rattle.code_word.proofs.correct.Tie as tie
 

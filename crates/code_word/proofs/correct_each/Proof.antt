@@ -1,7 +1,7 @@
 -- `code_word::correct_each` meets its contract. Assumes nothing.
 use native.Mathlib.Omega.{arith}
 use borrow.Author.Needs.{needs}
-use Rattle.code_word_laws.proofs.Promises.{
+use Rattle.code_word.proofs.Promises.{
   told-no,
   told-yes,
   none-asked,

@@ -4,7 +4,7 @@ use native.Mathlib.Omega.{arith}
 use lib.ListN.{length}
 use borrow.Author.Needs.{needs}
 use Rattle.code_word_laws.specs.Word.{Fits}
-use Rattle.code_word_laws.proofs.Promises.{told-no, told-yes, not-made-fitting}
+use Rattle.code_word.proofs.Promises.{told-no, told-yes, not-made-fitting}
 use Rattle.code_word_laws.proofs.Encoding as encoding
 use Rattle.code_word.proofs.make.Statement.{statement}
 use Rattle.code_word.proofs.make.Tie as tie

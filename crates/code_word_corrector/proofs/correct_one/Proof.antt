@@ -2,7 +2,7 @@
 use native.Mathlib.Omega.{arith}
 use borrow.Author.Needs.{needs}
 use Rattle.gf16.proofs.Laws.{product-lt}
-use Rattle.code_word_laws.proofs.Single.{taken-off-one, tried-none, tried-one}
+use Rattle.code_word_corrector.proofs.Single.{taken-off-one, tried-none, tried-one}
 use Rattle.code_word_corrector.proofs.correct_one.Statement.{statement}
 use Rattle.code_word_corrector.proofs.correct_one.Tie as tie
 

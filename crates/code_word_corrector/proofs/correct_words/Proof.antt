@@ -11,7 +11,16 @@ use Rattle.code_word_corrector.proofs.dealt.Reads as dealt-reads
 use Rattle.code_word_corrector.proofs.correct_word.Reads as correct-word-reads
 use Rattle.code_word_corrector.proofs.correct_words.Lts as lts
 use Rattle.code_word_corrector.proofs.correct_words.Reads as reads
-use Rattle.code_word_laws.proofs.Batch.{MendedTo, batch-first, batch-last, batch-inside, batch-semi, batch-next, dealt-is, dealt-short}
+use Rattle.code_word_corrector.proofs.Batch.{
+  MendedTo,
+  batch-first,
+  batch-last,
+  batch-inside,
+  batch-semi,
+  batch-next,
+  dealt-is,
+  dealt-short,
+}
 use Rattle.code_word_corrector.proofs.correct_words.Statement.{statement}
 use Rattle.code_word_corrector.proofs.correct_words.Tie as tie
 

@@ -4,7 +4,7 @@ use native.Mathlib.Omega.{arith}
 use borrow.Author.Needs.{needs}
 use Rattle.code_word_laws.specs.Packed.{nibble}
 use Rattle.code_word_laws.specs.Corrector.{minor}
-use Rattle.code_word_laws.proofs.Levels.{minor-done}
+use Rattle.code_word_locator.proofs.Levels.{minor-done}
 use Rattle.code_word_laws.proofs.Packed.{nibble-lt, four-nibbles, six-elements}
 use Rattle.code_word_locator.proofs.find_locator.Statement.{statement}
 use Rattle.code_word_locator.proofs.find_locator.Tie as tie

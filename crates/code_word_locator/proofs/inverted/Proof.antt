@@ -6,7 +6,7 @@ use lib.ListN.{getD}
 use borrow.Author.Needs.{needs}
 use Rattle.gf16.proofs.Laws.{inverse-lt}
 use Rattle.gf16.specs.Field.{inverse}
-use Rattle.code_word_laws.proofs.Levels.{inverses, inverses-at}
+use Rattle.code_word_locator.proofs.Levels.{inverses, inverses-at}
 use Rattle.code_word_locator.proofs.inverted.Statement.{statement}
 use Rattle.code_word_locator.proofs.inverted.Tie as tie
 

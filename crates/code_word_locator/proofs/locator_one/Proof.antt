@@ -3,7 +3,7 @@ use mathlib.Core.Path.{refl}
 use native.Mathlib.Omega.{arith}
 use borrow.Author.Needs.{needs}
 use Rattle.gf16.proofs.Laws.{product-lt}
-use Rattle.code_word_laws.proofs.Levels.{locator-one-done}
+use Rattle.code_word_locator.proofs.Levels.{locator-one-done}
 use Rattle.code_word_laws.proofs.Packed.{nibble-lt}
 use Rattle.code_word_locator.proofs.locator_one.Statement.{statement}
 use Rattle.code_word_locator.proofs.locator_one.Tie as tie

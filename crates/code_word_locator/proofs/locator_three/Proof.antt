@@ -1,6 +1,6 @@
 -- `code_word_locator::locator_three` meets its contract. Assumes nothing.
 use borrow.Author.Needs.{needs}
-use Rattle.code_word_laws.proofs.Levels.{locator-three-done}
+use Rattle.code_word_locator.proofs.Levels.{locator-three-done}
 use Rattle.code_word_laws.proofs.Packed.{nibble-lt, four-nibbles, six-elements}
 use Rattle.code_word_locator.proofs.locator_three.Statement.{statement}
 use Rattle.code_word_locator.proofs.locator_three.Tie as tie

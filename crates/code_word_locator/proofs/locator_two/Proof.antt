@@ -1,6 +1,6 @@
 -- `code_word_locator::locator_two` meets its contract. Assumes nothing.
 use borrow.Author.Needs.{needs}
-use Rattle.code_word_laws.proofs.Levels.{locator-two-done}
+use Rattle.code_word_locator.proofs.Levels.{locator-two-done}
 use Rattle.code_word_laws.proofs.Packed.{four-nibbles}
 use Rattle.code_word_locator.proofs.locator_two.Statement.{statement}
 use Rattle.code_word_locator.proofs.locator_two.Tie as tie

@@ -5,7 +5,7 @@ use native.Mathlib.Omega.{arith}
 use lib.ListN.{getD}
 use borrow.Author.Needs.{needs}
 use Rattle.gf16.specs.Field.{power}
-use Rattle.code_word_laws.proofs.Levels.{logarithms, logarithms-at, logarithms-lt}
+use Rattle.code_word_locator.proofs.Levels.{logarithms, logarithms-at, logarithms-lt}
 use Rattle.code_word_locator.proofs.logarithm.Statement.{statement}
 use Rattle.code_word_locator.proofs.logarithm.Tie as tie
 

@@ -1,7 +1,7 @@
 -- `code_word_locator::table` meets its contract: the constant is the list of the entries, by one computation. Assumes nothing.
 use Rattle.laws.specs.Tab.{tab}
 use Rattle.gf16.proofs.Products.{looked}
-use Rattle.code_word_laws.proofs.Table.{entries, quick, table-of-entries}
+use Rattle.code_word_locator.proofs.Tabled.{entries, quick, table-of-entries}
 use Rattle.code_word_locator.proofs.table.Statement.{statement}
 use Rattle.code_word_locator.proofs.table.Tie as tie
 

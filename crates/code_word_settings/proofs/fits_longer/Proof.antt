@@ -1,6 +1,6 @@
 -- `code_word_settings::fits_longer` meets its contract. Assumes nothing.
 use borrow.Author.Needs.{needs}
-use Rattle.code_word_laws.proofs.Tests.{longer-none, longer-some}
+use Rattle.code_word_settings.proofs.Tests.{longer-none, longer-some}
 use Rattle.code_word_settings.proofs.fits_longer.Statement.{statement}
 use Rattle.code_word_settings.proofs.fits_longer.Tie as tie
 

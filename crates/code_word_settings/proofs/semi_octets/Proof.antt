@@ -5,7 +5,7 @@ use Prim.Native.Nat.{_≤_}
 use native.Mathlib.Omega.{arith}
 use lib.ListN.{length, drop}
 use borrow.Author.Needs.{needs}
-use Rattle.code_word_laws.proofs.Tests.{Covers, covers-first, covers-next, covers-last}
+use Rattle.code_word_settings.proofs.Tests.{Covers, covers-first, covers-next, covers-last}
 use Rattle.code_word_settings.proofs.semi_octets.Statement.{statement}
 use Rattle.code_word_settings.proofs.semi_octets.Tie as tie
 

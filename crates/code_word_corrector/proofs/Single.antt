@@ -52,12 +52,14 @@ apart-changed (c ∷ cs) (suc k) v h l n =
     ap₂ (λ (a b : ℕ). a + b) (ap unequal (eq-eqb c c refl)) (apart-changed cs k v (omega arith) l n)
 
 -- the word is corrected where the rest of its syndromes is clear
-pub taken-off-one : (t : ℕ) (old : List ℕ) (s k v r : ℕ) → 1 ≤ t → t ≤ 3 → length old ≤ 15 → SemiOctets old → Syndromes old s → k < length old → v < 16 → v ≢ 0
+pub taken-off-one : (t : ℕ) (old : List ℕ) (s k v r : ℕ) → 1 ≤ t → t ≤ 3 → length old ≤ 15 → SemiOctets old → Syndromes old s
+    → k < length old → v < 16 → v ≢ 0
     → Row k v r → Clear (t + t) (bitXor s r) → WordCorrected (t + 1) old (set old k (bitXor (getD old k 0) v)) 1
 unfolding sum
 taken-off-one t old s k v r from to short semi syndromes h l n row clear =
     found-is t old to short semi (changed-at old k v) 1 (sym one)
-    (near-by t old to short semi (changed-at old k v) (semi-octets-changed old k v h l semi) (length-set old k (sum (getD old k 0) v)) roots (omega (arith, one)))
+    (near-by t old to short semi (changed-at old k v) (semi-octets-changed old k v h l semi) (length-set old k (sum (getD old k 0) v)) roots
+    (omega (arith, one)))
   where
     one : apart old (changed-at old k v) ≡ 1
     one = apart-changed old k v h l n

@@ -8,10 +8,11 @@ use native.Mathlib.Omega.{arith}
 use lib.Bits.{bitOr, or-lt, or-add-and, and-le-l, and-le-r}
 use lib.Dec.{leb, ltb}
 use lib.ListN.{length, getD, drop}
-use lib.Seq.{drop-cons, drop-length}
+use lib.Seq.{drop-length}
 use borrow.Author.Tests.{ltb-true, ltb-false, leb-true, leb-false}
+use Rattle.laws.proofs.Tab.{drop-back}
 use Rattle.laws.specs.Decides.{Decides}
 use Rattle.code_word_laws.specs.Word.{SemiOctets, Fits, distance}
 
 -- ---- the settings
 
@@ -24,9 +25,6 @@ fits-checked mode d long a b e c =
       holds = λ t. let h : d - 1 ≤ long = leb-true (d - 1) long t in record { mode-from = a; mode-to = b; checks = omega arith; most = c };
       fails = λ t f. let h : long < d - 1 = leb-false (d - 1) long t in omega (arith, f .checks);
     }
-
-pub drop-back : (w : List ℕ) (i : ℕ) → 0 < i → i ≤ length w → drop (i - 1) w ≡ getD w (i - 1) 0 ∷ drop i w
-drop-back w i p h = let e : suc (i - 1) ≡ i = omega arith in drop-cons w (i - 1) 0 (omega arith) ∙ ap (λ (k : ℕ). getD w (i - 1) 0 ∷ drop k w) e
 
 -- ---- the test of the data
 

@@ -26,7 +26,8 @@ one-more q r i false e = let h = ltb-false i r e in omega (arith, mul-suc q i)
 
 start-is : (many n i : ℕ) → startAt many n i ≡ many / n * i + min i (many % n)
 start-is many n zero = omega (arith, mul-zero (many / n))
-start-is many n (suc i) = ap (λ (x : ℕ). x + lengthAt many n i) (start-is many n i) ∙ one-more (many / n) (many % n) i (ltb i (many % n)) refl
+start-is many n (suc i) = ap (λ (x : ℕ). x + lengthAt many n i) (start-is many n i)
+    ∙ one-more (many / n) (many % n) i (ltb i (many % n)) refl
 
 -- the last word ends where the semi-octets do
 start-end : (many n : ℕ) → 1 ≤ n → startAt many n n ≡ many
@@ -111,7 +112,8 @@ module _ (mode many n : ℕ) (old : List ℕ) (i at : ℕ) (new counts : List �
           ∙ ap (λ (l : List ℕ). take long l) rear
           ∙ take-at last rest long long-last
 
-      each-next : (j : ℕ) → j < suc i → (b : Bool) → eqb j i ≡ b → WordCorrected mode (piece many n j old) (piece many n j after) (getD (set counts i r) j 0)
+      each-next : (j : ℕ) → j < suc i → (b : Bool) → eqb j i ≡ b
+          → WordCorrected mode (piece many n j old) (piece many n j after) (getD (set counts i r) j 0)
       each-next j h true e =
           let s = eqb-true j i e in
           rw (s, now-done, getD-set-same counts i r 0 (omega (arith, k .as-many))) (rw batch-word at takenOff)

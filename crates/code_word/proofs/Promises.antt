@@ -10,10 +10,20 @@ use lib.Dec.{ltb}
 use lib.ListN.{length}
 use borrow.Author.Tests.{not-true, not-false, lt-ltb, le-ltb, ltb-true}
 use Rattle.laws.specs.Decides.{Decides}
 use Rattle.code_word_laws.specs.Word.{SemiOctets, Fits}
 use Rattle.code_word_laws.specs.Make.{NotMade}
-use Rattle.code_word_laws.specs.Correct.{WordCorrected, IsCorrected, IsNone, NotCorrected, lengthAt, Batch, EachCorrected, AllCorrected, NoneCorrected}
+use Rattle.code_word_laws.specs.Correct.{
+  WordCorrected,
+  IsCorrected,
+  IsNone,
+  NotCorrected,
+  lengthAt,
+  Batch,
+  EachCorrected,
+  AllCorrected,
+  NoneCorrected,
+}
 use Rattle.code_word_laws.specs.Corrector.{Dealt}
 
 -- what a test tells, where its answer was turned round
 pub told-no : (P : Type 0) (r : Bool) → Decides P r → not r ≡ true → P → ⊥
@@ -35,7 +45,8 @@ not-corrected-fitting mode old no-fit = record { unfit = λ q. no-fit (q .fits);
 pub not-corrected-elements : (mode : ℕ) (old : List ℕ) → (SemiOctets old → ⊥) → NotCorrected mode old old 0
 not-corrected-elements mode old not-semi = record { unfit = λ q. not-semi (q .semi-octets); kept = refl; zeroed = refl }
 
-module _ (mode : ℕ) (old new : List ℕ) (n : ℕ) (fits : Fits mode (length old)) (semi : SemiOctets old) (takenOff : WordCorrected (mode - 1 + 1) old new n) where
+module _ (mode : ℕ) (old new : List ℕ) (n : ℕ) (fits : Fits mode (length old)) (semi : SemiOctets old)
+    (takenOff : WordCorrected (mode - 1 + 1) old new n) where
   same : mode - 1 + 1 ≡ mode
   same = omega (arith, fits .mode-from)
 
@@ -97,7 +108,8 @@ module _ (mode : ℕ) (words counts : List ℕ) where
         none-corrected
         (λ b. no-fit (λ h. subst (λ (t : Bool). Fits mode (cond t (long + 1) long)) (lt-ltb 0 over h) (b .fits 0 some)))
 
-    fits-each : Fits mode long → (0 < over → Fits mode (long + 1)) → (i : ℕ) (t : Bool) → ltb i over ≡ t → Fits mode (cond t (long + 1) long)
+    fits-each : Fits mode long → (0 < over → Fits mode (long + 1)) → (i : ℕ) (t : Bool) → ltb i over ≡ t
+        → Fits mode (cond t (long + 1) long)
     fits-each f g i true e = let h = ltb-true i over e in g (omega arith)
     fits-each f g i false e = f
 

@@ -1,0 +1,2 @@
+-- What the tests of settings and elements ask.
+pub mod Tests
