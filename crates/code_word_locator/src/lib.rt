@@ -13,6 +13,8 @@ ghost use Rattle.gf16.specs.Field.{product, power, inverse};
 ghost use Rattle.code_word_laws.specs.Word.{SemiOctets};
 ghost use Rattle.code_word_laws.specs.Corrector.{Table, TableFor, Row, Syndromes, Clear, IsLocator, minorTwo, triple};
 ghost use Rattle.code_word_laws.specs.Corrector.{ThirdMinorZero, MinorsZero, ThirdMinor, SecondMinor};
+use widening::long;
+use widening::wide;
 
 // Number 16 a + b: the digits from the lowest on are b times 2^(a j) for j = 0 .. 14, and the highest is a times b.
 // Its low half is entry 2 (16 a + b) and its high half the next: halves of 32 bits are built sixteen bytes at a time, numbers of 64 bits
@@ -537,19 +539,6 @@ pub fn table() -> [u32; 512]
     ensures { λ r. ⌜ Table r ⌝ }
 {
     TABLE
-}
-
-fn wide(x: u8) -> usize
-    ensures { λ r. ⌜ r ≡ x ⌝ }
-{
-    x as usize
-}
-
-fn long(x: u32) -> u64
-    ensures { λ r. ⌜ r ≡ x ⌝ }
-    ensures { λ r. ⌜ r < 4294967296 ⌝ }
-{
-    x as u64
 }
 
 // The field's product, from the table.

@@ -2,6 +2,7 @@
 ghost use Prim.Native.Nat.{_<_};
 ghost use lib.ListN.{length};
 ghost use Rattle.day_sample.specs.Sample.{Follows};
+use widening::wide;
 
 // A frame of the sample: its rate, and where it starts and ends.
 pub struct Piece {
@@ -24,12 +25,6 @@ pub enum Surveyed {
     CutShort,
     UnknownRate,
     BadLength,
-}
-
-fn wide(x: u8) -> usize
-    ensures { λ r. ⌜ r < 256 ⌝ }
-{
-    x as usize
 }
 
 // The frame at a place.

@@ -7,6 +7,7 @@ ghost use lib.ListN.{length};
 ghost use Rattle.frame_settings.specs.Settings.{Sized};
 ghost use Rattle.frame_bits.specs.Bits.{bitOf, readBit, bitGiven};
 ghost use Rattle.frame_bits.specs.Sound.{GoodBit, GoodField};
+use widening::wide;
 
 // A bit with the next cursor; or it would stand outside the frame, which is cause 6.
 pub enum Bit {
@@ -18,13 +19,6 @@ pub enum Bit {
 pub struct Field {
     pub value: usize,
     pub next: usize,
-}
-
-pub fn wide(x: u8) -> usize
-    ensures { λ r. ⌜ r ≡ x ⌝ }
-    ensures { λ r. ⌜ r < 256 ⌝ }
-{
-    x as usize
 }
 
 // Bit p of the side stream, which the caller knows to be inside the frame.

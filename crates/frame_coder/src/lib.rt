@@ -7,7 +7,7 @@ ghost use Prim.Native.Nat.{_+_, _*_, _≤_, _<_};
 ghost use Rattle.frame_settings.specs.Settings.{Sized};
 ghost use Rattle.frame_coder.specs.Symbol.{startOf, largest, refillOf, symbolOf, symbolGiven};
 ghost use Rattle.frame_coder.specs.Sound.{Sound, Ready, SymbolRow, Scaled, Narrow, Refilled, GoodSymbol};
-use frame_bits::wide;
+use widening::wide;
 
 // The clause's low and range; `at` is its bp, and `taken` the number of symbols taken whole.
 pub struct Coder {

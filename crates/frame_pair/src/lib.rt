@@ -14,10 +14,10 @@ ghost use Rattle.frame_coder.specs.Sound.{Ready};
 ghost use Rattle.frame_pair.specs.Sound.{PairTables, Escaped, GoodSign, GoodPlane, GoodLast, GoodPair};
 use frame_bits::Bit;
 use frame_bits::read_bit;
-use frame_bits::wide;
 use frame_coder::Coder;
 use frame_coder::Symbol;
 use frame_coder::decode;
+use widening::wide;
 
 // The two values with an escape's bits and the next side cursor; or a bit would stand outside the frame, which is cause 6.
 pub enum Plane {

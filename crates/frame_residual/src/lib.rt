@@ -12,7 +12,6 @@ ghost use Rattle.frame_residual.specs.Sound.{GoodLeft, LeftIn, GoodLate}
 ghost use Rattle.frame_pairs.specs.Pairs.{spectrumGiven};
 ghost use Rattle.frame_pairs.specs.Sound.{Working, Small};
 use frame_bits::bit_at;
-use frame_bits::wide;
 use frame_coder::Coder;
 
 // The bits left for the residual, or cause 7.

@@ -7,11 +7,11 @@ ghost use Rattle.frame_settings.specs.Settings.{Known, Sized};
 ghost use Rattle.frame_side.specs.Side.{headOf, headGiven, secondFlag, sideOf, sideGiven};
 ghost use Rattle.frame_side.specs.Sound.{GoodHead, GoodFlags, GoodTail, GoodSide};
 use frame_bits::read_bits;
-use frame_bits::wide;
 use frame_settings::Setting;
 pub use frame_shape::Shape;
 use frame_shape::ShapeRead;
 use frame_shape::read_shape;
+use widening::wide;
 
 pub struct Head {
     pub bandwidth: u8,

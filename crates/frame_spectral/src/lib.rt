@@ -48,7 +48,7 @@ pub fn read_spectral(
     let cum = coder_tables::spectrum();
     let mut x = [0i32; 400];
     let mut levels = [0u8; 200];
-    let lsb = frame_bits::wide(h.lsb_mode);
+    let lsb = widening::wide(h.lsb_mode);
     let last = h.last_line as usize;
     let o = PairSetting {
         lsb,

@@ -2,8 +2,8 @@
 // It stands over `record_bytes`. Each public function is total and equals its definition in specs/Answers.antt, the lent buffer too;
 // specs/Layout.antt of `record_bytes` says which bytes a list of entries is. Nothing is written before the last test.
 ghost use mathlib.Core.Path.{_≡_};
-ghost use Rattle.record.specs.Answers.{madeNumber, newNumber, newBuffer, countedAnswer, entriesAnswer, foundAnswer, entryAnswer, framePart};
-ghost use Rattle.record.specs.Answers.{mayAddTo, addedAnswer, addAnswer, addBuffer, asked};
+ghost use Rattle.record.specs.Answers.{madeNumber, newNumber, newBuffer, countedAnswer, entriesAnswer, foundAnswer};
+ghost use Rattle.record.specs.Answers.{entryAnswer, framePart, mayAddTo, addedAnswer, addAnswer, addBuffer, asked};
 ghost use Rattle.record.specs.Meaning.{CountMeans, StoredBy};
 pub use record_bytes::Located;
 use record_bytes::Walked;
@@ -12,8 +12,8 @@ use record_bytes::end_number;
 use record_bytes::in_range;
 use record_bytes::tail;
 use record_bytes::walk;
-use record_bytes::wide2;
-use record_bytes::wide4;
+use widening::wide2;
+use widening::wide4;
 
 // What making a record answers.
 pub enum Made {

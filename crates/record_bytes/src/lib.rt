@@ -10,6 +10,8 @@ ghost use lib.Dec.{eqb};
 ghost use Rattle.record_bytes.specs.Layout.{big, inRange};
 ghost use Rattle.record_bytes.specs.Reading.{number, entryBefore, readRecord};
 ghost use Rattle.record_bytes.specs.Steps.{put, stepOf, tailOf, walkOf};
+use widening::wide;
+use widening::wide4;
 
 // Where an entry's frame stands in the record, and the entry's fields.
 pub struct Located {
@@ -29,25 +31,6 @@ pub enum Step {
 pub enum Walked {
     Whole(u32, Located),
     Broken,
-}
-
-pub fn wide(x: u8) -> usize
-    ensures { λ r. ⌜ r ≡ x ⌝ }
-    ensures { λ r. ⌜ r < 256 ⌝ }
-{
-    x as usize
-}
-
-pub fn wide2(x: u16) -> usize
-    ensures { λ r. ⌜ r ≡ x ⌝ }
-{
-    x as usize
-}
-
-pub fn wide4(x: u32) -> usize
-    ensures { λ r. ⌜ r ≡ x ⌝ }
-{
-    x as usize
 }
 
 // Document 01's ranges of an entry's fields.

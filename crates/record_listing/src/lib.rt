@@ -12,9 +12,9 @@ use record_bytes::Located;
 use record_bytes::Step;
 use record_bytes::copy_in;
 use record_bytes::entry_before;
-use record_bytes::wide;
-use record_bytes::wide2;
-use record_bytes::wide4;
+use widening::wide;
+use widening::wide2;
+use widening::wide4;
 
 // Where the listing starts in the buffer.
 pub enum Listed {

@@ -14,7 +14,7 @@ returns : tie.Need-returns
 unfolding inverses
 returns c =
     let e : getD inverses (c .wide .result) 0 ≡ inverse (c .before .args .a) =
-    ap (λ (i : ℕ). getD inverses i 0) (c .wide .ensures)
+    ap (λ (i : ℕ). getD inverses i 0) (c .wide .ensures .0)
     ∙ inverses-at (c .before .args .a) (omega arith) in
     (e, rw e (inverse-lt (c .before .args .a)))
 

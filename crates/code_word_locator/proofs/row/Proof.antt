@@ -15,7 +15,7 @@ returns c =
     let x = w .before .args .x in
     λ j l.
     ap₂ (λ (p q : ℕ). nibble j (p + q * 4294967296)) (c .before .before .long .ensures .0) (c .long2 .ensures .0)
-    ∙ ap (λ (i : ℕ). nibble j (numberAt (w .before .args .t .now) (16 * a + i))) (w .wide .ensures)
+    ∙ ap (λ (i : ℕ). nibble j (numberAt (w .before .args .t .now) (16 * a + i))) (w .wide .ensures .0)
     ∙ w .before .pre .0 .spread a x j (omega arith) (omega arith) l
 
 pub row-spec : {M : Type 1} → statement M

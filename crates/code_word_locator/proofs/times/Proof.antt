@@ -13,14 +13,14 @@ cast-result c =
     let a = c .before .before .args .a in
     let b = c .before .before .args .b in
     let e =
-    ap (λ (i : ℕ). getD (c .before .before .args .t .now) (2 * i + 1) 0 / 268435456) (c .before .wide .ensures)
+    ap (λ (i : ℕ). getD (c .before .before .args .t .now) (2 * i + 1) 0 / 268435456) (c .before .wide .ensures .0)
     ∙ c .before .before .pre .0 .times a b (omega arith) (omega arith)
     in
     record { fits = omega (arith, product-lt a b) }
 
 returns : tie.Need-returns
 returns c =
-    ap (λ (i : ℕ). getD (c .before .before .args .t .now) (2 * i + 1) 0 / 268435456) (c .before .wide .ensures)
+    ap (λ (i : ℕ). getD (c .before .before .args .t .now) (2 * i + 1) 0 / 268435456) (c .before .wide .ensures .0)
     ∙ c .before .before .pre .0 .times (c .before .before .args .a) (c .before .before .args .b) (omega arith) (omega arith)
 
 pub times-spec : {M : Type 1} → statement M
