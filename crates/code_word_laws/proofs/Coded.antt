@@ -1,15 +1,13 @@
 -- The code word over the data, by division, is a code word, and the only one of its length over these data. It rests on the division of
 -- Division.antt, and on the distance: two words over the same data differ in the d - 1 check semi-octets at most.
 -- Assumes nothing.
-use mathlib.Core.Path.{_≡_, refl, sym, ap, _∙_}
-use mathlib.Core.Bool.{true}
+use mathlib.Core.Path.{_≡_, sym, ap, _∙_}
 use mathlib.Core.List.{List, [], _∷_, _++_}
 use Prim.Native.Nat.{ℕ, zero, suc, _+_, _-_, _≤_}
 use native.Mathlib.Omega.{arith}
 use lib.Dec.{eqb}
 use lib.ListN.{length, getD, drop, replicate, length-append}
 use lib.Seq.{drop-at}
-use borrow.Author.Tests.{eq-eqb}
 use Rattle.gf16.specs.Field.{sum}
 use Rattle.gf16.proofs.Laws.{sum-undone, sum-zero, zero-sum}
 use Rattle.code_word_laws.specs.Polynomial.{multiplied, rooted, generator}

@@ -8,12 +8,11 @@ use mathlib.Core.List.{List, [], _∷_}
 use Prim.Native.Nat.{ℕ, zero, suc, _+_, _-_, _/_, _%_, _≤_, _<_}
 use native.Mathlib.Omega.{arith}
 use lib.ListN.{length, getD}
-use borrow.Author.Tests.{eq-eqb}
 use Rattle.laws.specs.Decides.{Decides}
 use Rattle.gf16.specs.Field.{sum, power}
 use Rattle.gf16.proofs.Laws.{sum-lt, sum-assoc, sum-self, sum-zero, cancel}
 use Rattle.code_word_laws.specs.Polynomial.{value, added}
-use Rattle.code_word_laws.specs.Word.{SemiOctets, Roots, apart, unequal, distance}
+use Rattle.code_word_laws.specs.Word.{SemiOctets, Roots, apart, distance}
 use Rattle.code_word_laws.specs.Correct.{Near, WordCorrected}
 use Rattle.code_word_laws.specs.Packed.{nibble}
 use Rattle.code_word_laws.specs.Corrector.{

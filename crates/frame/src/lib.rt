@@ -2,7 +2,6 @@
 // Promised for every input: the answer and both lent buffers are those of the clause's own walk in specs/Frame.antt, or document 01's 1, 2
 // or 5 with the first cause in reading order; a refusal leaves both buffers as lent. Values lie in -32,767 to 32,767, symbols are at most
 // 18 + 7 x last line.
-ghost use mathlib.Core.Path.{_≡_};
 ghost use lib.ListN.{length};
 ghost use Rattle.frame_settings.specs.Settings.{Known, Sized};
 ghost use Rattle.frame.specs.Frame.{judgedOf, judgedSized};

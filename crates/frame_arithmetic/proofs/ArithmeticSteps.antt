@@ -1,7 +1,7 @@
 -- The arithmetic stream of a frame (5.4.2.7): what each return of `read_arithmetic` says, and the answer with both buffers as a judgement
 -- asks.
 -- Assumes nothing.
-use mathlib.Core.Path.{_≡_, refl, sym, ap, _∙_}
+use mathlib.Core.Path.{_≡_, refl, sym, ap}
 use mathlib.Core.List.{List}
 use Prim.Native.Nat.{ℕ, _+_, _*_, _≤_}
 use native.Mathlib.Omega.{arith}

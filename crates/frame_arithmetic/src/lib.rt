@@ -14,6 +14,7 @@ use frame_side::Side;
 use frame_spectral::SpectralRead;
 use frame_spectral::read_spectral;
 use frame_tns::FilterRead;
+use frame_tns::filter;
 
 // What an accepted frame says beside its TNS coefficients, spectrum and residual bits.
 pub struct Fields {
@@ -53,6 +54,7 @@ pub struct Reading {
     pub tns_coefficients_1: [u8; 8],
 }
 
+// A refusal: its answer, and no coefficient.
 pub fn refused(answer: Answer) -> Reading
     ensures { λ r. ⌜ r ≡ record { answer = answer; «tns_coefficients_0» = unused; «tns_coefficients_1» = unused } ⌝ }
 {
@@ -89,17 +91,9 @@ pub fn read_arithmetic(
     let mut first = [0u8; 8];
     let mut second = [0u8; 8];
     let start = frame_coder::start(frame);
-    match frame_tns::filter(frame, &orders, &rows, w, f.tns_0, &mut first, start) {
+    match filter(frame, &orders, &rows, w, f.tns_0, &mut first, start) {
         FilterRead::Cause(k) => refused(Answer::BitError(k)),
-        FilterRead::Value(m, c) => match frame_tns::filter(
-            frame,
-            &orders,
-            &rows,
-            w,
-            f.tns_1,
-            &mut second,
-            c,
-        ) {
+        FilterRead::Value(m, c) => match filter(frame, &orders, &rows, w, f.tns_1, &mut second, c) {
             FilterRead::Cause(k) => refused(Answer::BitError(k)),
             FilterRead::Value(n, d) => match read_spectral(
                 r,

@@ -2,7 +2,7 @@
 -- No public promise but `Bounded` of `frame` rests on a line of this. Assumes nothing.
 use mathlib.Core.Path.{_≡_}
 use mathlib.Core.List.{List}
-use Prim.Native.Nat.{ℕ, _+_, _*_, _^_, _<_, _≤_}
+use Prim.Native.Nat.{ℕ, _+_, _*_, _^_, _<_}
 use lib.ListN.{length}
 use Rattle.frame_bits.specs.Read.{value}
 use Rattle.frame_bits.specs.Bits.{readBits}

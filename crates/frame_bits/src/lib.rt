@@ -31,6 +31,7 @@ pub fn bit_at(s: &[u8], p: usize) -> usize
     (wide(s[at]) >> (p % 8)) % 2
 }
 
+// One bit of the side stream, where it lies inside the frame.
 pub fn read_bit(s: &[u8], p: usize) -> Bit
     requires { ⌜ Sized (now s) ⌝ }
     ensures { λ r. ⌜ bitGiven r ≡ readBit (now (s .entry)) p ⌝ }

@@ -3,7 +3,7 @@
 // Inner: `frame_tns`, `frame_pair` and those over them stand over it. It asks for a frame of 20 to 400 bytes, for a row that rises from 0
 // to 1,024, and for a cursor that it gave itself (`Sound`).
 ghost use mathlib.Core.Path.{_≡_};
-ghost use Prim.Native.Nat.{_+_, _*_, _≤_, _<_};
+ghost use Prim.Native.Nat.{_+_, _*_, _<_};
 ghost use Rattle.frame_settings.specs.Settings.{Sized};
 ghost use Rattle.frame_coder.specs.Symbol.{startOf, largest, refillOf, symbolOf, symbolGiven};
 ghost use Rattle.frame_coder.specs.Sound.{Sound, Ready, SymbolRow, Scaled, Narrow, Refilled, GoodSymbol};
@@ -30,6 +30,7 @@ fn entry(x: u16) -> usize
     x as usize
 }
 
+// The coder at the first three bytes of the stream.
 pub fn start(s: &[u8]) -> Coder
     requires { ⌜ Sized (now s) ⌝ }
     ensures { λ r. ⌜ r ≡ startOf (now (s .entry)) ⌝ }

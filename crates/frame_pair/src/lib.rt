@@ -183,6 +183,7 @@ fn next_context(c: usize, v: usize, level: usize) -> usize
     c % 16 * 16 + (12 + l)
 }
 
+// One pair of lines: escapes, the last symbol, low bits and signs.
 pub fn read_pair(
     s: &[u8],
     look: &[u8],

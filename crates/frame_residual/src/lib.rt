@@ -34,6 +34,7 @@ fn log2(r: usize) -> usize
     0
 }
 
+// The bits between the two streams, or cause 7 where there are fewer than none.
 pub fn bits_left(bytes: usize, p: usize, c: Coder) -> Left
     requires { ⌜ bytes ≤ 400 ⌝ }
     requires { ⌜ p ≤ 8 * bytes + 23 ⌝ }

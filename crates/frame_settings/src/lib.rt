@@ -29,6 +29,7 @@ fn known(index: usize, lines: usize, bandwidth: usize, pair: usize) -> Rate
     })
 }
 
+// The row of a rate in document 01's table.
 pub fn rate_setting(khz: u32) -> Rate
     ensures { λ r. ⌜ r ≡ rateOf khz ⌝ }
     ensures { λ r. ⌜ KnownRate r ⌝ }
@@ -43,6 +44,7 @@ pub fn rate_setting(khz: u32) -> Rate
     }
 }
 
+// The offset of the contexts, by the frame's bits and the rate.
 pub fn rate_offset(index: usize, bytes: usize) -> usize
     requires { ⌜ index ≤ 4 ⌝ }
     requires { ⌜ bytes ≤ 400 ⌝ }
@@ -56,6 +58,7 @@ pub fn rate_offset(index: usize, bytes: usize) -> usize
     }
 }
 
+// The row of the TNS orders, by the frame's bits.
 pub fn tns_weighting(bytes: usize) -> usize
     requires { ⌜ bytes ≤ 400 ⌝ }
     ensures { λ r. ⌜ r ≡ weighting bytes ⌝ }

@@ -34,6 +34,7 @@ fn joint_end(mode: usize) -> usize
     }
 }
 
+// The spectral shape's fields, or cause 3.
 pub fn read_shape(s: &[u8], p: usize) -> ShapeRead
     requires { ⌜ p ≤ 23 ⌝ }
     requires { ⌜ Sized (now s) ⌝ }

@@ -137,6 +137,7 @@ fn read_tail(s: &[u8], pitch: usize, p: usize) -> TailRead
     }
 }
 
+// The side information, or cause 1, 2 or 3.
 pub fn read_side(s: &[u8], r: Setting) -> SideRead
     requires { ⌜ Known r ⌝ }
     requires { ⌜ Sized (now s) ⌝ }

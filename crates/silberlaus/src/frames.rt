@@ -8,6 +8,7 @@ ghost use Rattle.frame_arithmetic.specs.Answers.{Answers};
 ghost use Rattle.silberlaus_frames.specs.Frames.{frameGiven, judgedEntry, Bounded};
 use silberlaus_frames::SilberlausFrame;
 
+// The lines of a rate, 0 where it is none.
 #[no_mangle]
 pub extern "C" fn silberlaus_line_count(khz: u32) -> usize
     ensures { λ r. ⌜ r ≡ lineCount khz ⌝ }
@@ -15,6 +16,7 @@ pub extern "C" fn silberlaus_line_count(khz: u32) -> usize
     frame::line_count(khz)
 }
 
+// A frame read, or refused with 1, 2 or 5.
 #[no_mangle]
 pub extern "C" fn silberlaus_read_frame(
     khz: u32,
@@ -32,6 +34,7 @@ pub extern "C" fn silberlaus_read_frame(
     silberlaus_frames::read_frame(khz, bytes, spectrum, residual)
 }
 
+// The frame of a record's entry read, or refused with 1, 2, 7 or 5.
 #[no_mangle]
 pub extern "C" fn silberlaus_read_entry(
     bytes: &[u8],

@@ -7,6 +7,7 @@ use silberlaus_records::SilberlausAdded;
 use silberlaus_records::SilberlausEntries;
 use silberlaus_records::SilberlausEntry;
 
+// A record of no entries at the start of the buffer, or 6.
 #[no_mangle]
 pub extern "C" fn silberlaus_record_new(buffer: &mut [u8]) -> u8
     ensures { λ r. ⌜ r ≡ newNumber (now (buffer .entry)) ⌝ }
@@ -15,6 +16,7 @@ pub extern "C" fn silberlaus_record_new(buffer: &mut [u8]) -> u8
     silberlaus_records::new(buffer)
 }
 
+// The number of a record's entries, or 7.
 #[no_mangle]
 pub extern "C" fn silberlaus_record_entries(bytes: &[u8]) -> SilberlausEntries
     ensures { λ r. ⌜ entriesGiven r ≡ entriesAnswer (now (bytes .entry)) ⌝ }
@@ -23,6 +25,7 @@ pub extern "C" fn silberlaus_record_entries(bytes: &[u8]) -> SilberlausEntries
     silberlaus_records::entries(bytes)
 }
 
+// An entry's fields, or 7, or 1 for a place that it has not.
 #[no_mangle]
 pub extern "C" fn silberlaus_record_entry(bytes: &[u8], place: usize) -> SilberlausEntry
     ensures { λ r. ⌜ entryGiven r ≡ entryAnswer (now (bytes .entry)) place ⌝ }
@@ -30,6 +33,7 @@ pub extern "C" fn silberlaus_record_entry(bytes: &[u8], place: usize) -> Silberl
     silberlaus_records::entry(bytes, place)
 }
 
+// An entry added and the new used length, or 1, 7 or 6.
 #[no_mangle]
 pub extern "C" fn silberlaus_record_add(
     buffer: &mut [u8],

@@ -5,6 +5,7 @@ ghost use Rattle.slot.specs.Unprotect.{Recordable, Unprotects};
 ghost use Rattle.silberlaus_slots.specs.Told.{toldOf};
 use silberlaus_slots::SilberlausUnprotected;
 
+// The bytes of a frame in a slot, 0 where a setting is out of range.
 #[no_mangle]
 pub extern "C" fn silberlaus_frame_size(size: usize, mode: u32) -> usize
     ensures { λ r. ⌜ IsFrameSize size mode r ⌝ }
@@ -12,6 +13,7 @@ pub extern "C" fn silberlaus_frame_size(size: usize, mode: u32) -> usize
     slot::frame_size(size, mode)
 }
 
+// A slot made of a frame and a request, or 1 or 2.
 #[no_mangle]
 pub extern "C" fn silberlaus_protect(
     size: usize,
@@ -25,6 +27,7 @@ pub extern "C" fn silberlaus_protect(
     silberlaus_slots::protect(size, mode, request, frame, sent)
 }
 
+// The frame, the request and the count of a received slot, or 1, 2, 3 or 4.
 #[no_mangle]
 pub extern "C" fn silberlaus_unprotect(
     size: usize,

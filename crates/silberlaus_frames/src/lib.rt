@@ -140,6 +140,7 @@ fn numbered(r: Reading) -> SilberlausFrame
     }
 }
 
+// A frame read, or refused with 1, 2 or 5.
 pub fn read_frame(
     khz: u32,
     bytes: &[u8],

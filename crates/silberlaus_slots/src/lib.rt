@@ -14,6 +14,7 @@ pub struct SilberlausUnprotected {
     pub semi_octets: u16,
 }
 
+// A slot made of a frame and a request, or 1 or 2.
 pub fn protect(size: usize, mode: u32, request: u32, frame: &[u8], sent: &mut [u8]) -> u8
     ensures { λ r. ⌜ Protects size mode request (now (frame .entry)) (now (sent .entry)) (now (sent .exit)) r ⌝ }
 {
@@ -31,6 +32,7 @@ fn refused(number: u8) -> SilberlausUnprotected
     }
 }
 
+// The frame, the request and the count of a received slot, or 1, 2, 3 or 4.
 pub fn unprotect(size: usize, mode: u32, received: &[u8], frame: &mut [u8]) -> SilberlausUnprotected
     ensures { λ r. ⌜ Unprotects size mode (now (received .entry)) (now (frame .entry)) (now (frame .exit)) (toldOf r) ⌝ }
     ensures { λ r. ⌜ Recordable (toldOf r) (now (frame .exit)) ⌝ }

@@ -5,14 +5,14 @@ use mathlib.Core.Path.{_≡_, sym, ap, ap₂, _∙_}
 use mathlib.Core.List.{List}
 use Prim.Native.Nat.{ℕ, suc, _+_, _*_, _-_, _/_, _%_, _^_, _≤_, _<_}
 use native.Mathlib.Omega.{arith}
-use native.Mathlib.Nat.{one-mul, mul-assoc, div-lt-iff-lt-mul, mod-lt}
-use lib.Bits.{bitXor, xor-lt}
+use native.Mathlib.Nat.{mul-assoc, mod-lt}
+use lib.Bits.{bitXor}
 use lib.ListN.{getD}
-use lib.Pow.{pow-pos, pow-mono, pow-add, shl-lt, shl-exact, split}
+use lib.Pow.{pow-pos, pow-add, split}
 use Rattle.gf16.specs.Field.{sum}
-use Rattle.slot_laws.specs.Hash.{Degree, pushed}
+use Rattle.slot_laws.specs.Hash.{Degree}
 use Rattle.slot_hashing.specs.Inner.{lifted, stepsOf, Stepped, semiPushed}
-use Rattle.slot_laws.proofs.Hash.{pushed-lt, sum-below, sum-shifted, sum-scale, xors}
+use Rattle.slot_laws.proofs.Hash.{sum-below, sum-shifted, sum-scale, xors}
 use Rattle.slot_hashing.proofs.HashTable.{
   four,
   lifted-lt,

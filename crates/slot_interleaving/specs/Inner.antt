@@ -10,6 +10,7 @@ use Rattle.code_word_laws.specs.Make.{coded}
 use Rattle.code_word_laws.specs.Register.{withChecks}
 use Rattle.code_word_laws.specs.Checks.{checkRows}
 use Rattle.slot_laws.specs.Sizes.{InRange, words, wordLength, dataLength}
+use Rattle.slot_laws.specs.Order.{Data}
 use Rattle.slot_laws.specs.Words.{signature, placeOf, wordOf, numberIn}
 
 -- ---- asked
@@ -78,3 +79,9 @@ pub record Placed (size : ℕ) (g : ℕ → ℕ → ℕ) (w : ℕ → List ℕ) 
   pub long : length places ≡ 800
   pub stands : (p : ℕ) → p < 2 * size → wordOf size p < n
       → getD places p 0 ≡ sum (getD (w (wordOf size p)) (numberIn size p) 0) (g (wordOf size p) (numberIn size p))
+
+-- a slot and its data semi-octets, or room for them
+pub record SlotAndData (size mode : ℕ) (slot message : List ℕ) : Type 0 where
+  pub range : InRange size mode
+  pub long : length slot ≡ size
+  pub given : Data size mode message

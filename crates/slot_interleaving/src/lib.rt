@@ -6,12 +6,12 @@ ghost use Prim.Native.Nat.{ℕ, _+_, _*_, _≤_, _<_};
 ghost use lib.ListN.{length, getD, take, drop};
 ghost use Rattle.laws.specs.Tab.{Below};
 ghost use Rattle.code_word_laws.specs.Checks.{summed};
-ghost use Rattle.slot_laws.specs.Sizes.{InRange, dataLength};
+ghost use Rattle.slot_laws.specs.Sizes.{dataLength};
 ghost use Rattle.slot_laws.specs.Semi.{pack};
 ghost use Rattle.slot_laws.specs.Words.{signature, placeOf};
-ghost use Rattle.slot_laws.specs.Order.{Data};
 ghost use Rattle.slot_laws.specs.Slot.{slotWith};
-ghost use Rattle.slot_interleaving.specs.Inner.{HasPlace, AtWord, WithRows, InPairs, DataSpanned, ChecksSpanned, WordScattered};
+ghost use Rattle.slot_interleaving.specs.Inner.{HasPlace, AtWord, WithRows, InPairs, SlotAndData};
+ghost use Rattle.slot_interleaving.specs.Inner.{DataSpanned, ChecksSpanned, WordScattered};
 
 // A.47, A.48 and A.49.
 const TWO: [u8; 15] = [7, 15, 5, 6, 14, 9, 1, 3, 12, 10, 13, 3, 2, 0, 0];
@@ -133,7 +133,7 @@ fn place_word(
 
 // The slot with these data.
 pub fn write_slot(size: usize, mode: usize, message: &[u8], slot: &mut [u8])
-    requires { ⌜ (InRange size mode) × (Data size mode (now message)) × (length (now slot) ≡ size) ⌝ }
+    requires { ⌜ SlotAndData size mode (now slot) (now message) ⌝ }
     ensures { λ _. ⌜ now (slot .exit) ≡ slotWith size mode (now (message .entry)) ⌝ }
 {
     let count = slot_sizes::word_count(size);

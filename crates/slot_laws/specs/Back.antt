@@ -3,7 +3,7 @@
 -- Assumes nothing.
 use mathlib.Core.Path.{_≡_}
 use mathlib.Core.List.{List}
-use Prim.Native.Nat.{ℕ, _+_, _*_, _-_, _/_}
+use Prim.Native.Nat.{ℕ, _*_, _-_, _/_}
 use lib.ListN.{take, drop, getD}
 use Rattle.slot_laws.specs.Sizes.{hash1, headingSize, frameSize}
 use Rattle.slot_laws.specs.Semi.{pack}

@@ -15,7 +15,7 @@ use lib.Seq.{length-take-le, take-all, take-at, drop-drop}
 use borrow.Author.Tests.{eqb-true, eqb-false, ltb-true, ltb-false}
 use borrow.Rule.Slice.PartMut.{midOf, putMid, same-len-mid}
 use Rattle.laws.specs.Tab.{total, Below}
-use Rattle.laws.proofs.Tab.{total-same, total-next, total-none, total-up, below-take, below-drop}
+use Rattle.laws.proofs.Tab.{total-same, total-next, total-none, total-up, below-drop}
 use Rattle.laws.proofs.Spread.{share}
 use Rattle.code_word_laws.specs.Word.{Fits, apart, distance, IsDistance}
 use Rattle.code_word_laws.specs.Make.{coded}

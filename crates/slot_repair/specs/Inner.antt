@@ -7,7 +7,7 @@ use lib.ListN.{length, getD, drop}
 use Rattle.laws.specs.Tab.{total, Below}
 use Rattle.code_word_laws.specs.Word.{distance, apart}
 use Rattle.code_word_laws.specs.Correct.{Near}
-use Rattle.slot_laws.specs.Sizes.{InRange, words, wordLength}
+use Rattle.slot_laws.specs.Sizes.{words, wordLength}
 use Rattle.slot_laws.specs.Words.{piece, dataWord}
 use Rattle.slot_laws.specs.Order.{Data}
 use Rattle.slot_laws.specs.Slot.{codeWord, wordIn}
@@ -19,12 +19,6 @@ use Rattle.slot_clean.specs.Inner.{unpacked, wordFrom}
 -- room for a count a word, and for the data
 pub record Rooms (size mode : ℕ) (counts message : List ℕ) : Type 0 where
   pub many : length counts ≡ words size
-  pub given : Data size mode message
-
--- a slot, and room for its data
-pub record SlotAndRoom (size mode : ℕ) (slot message : List ℕ) : Type 0 where
-  pub range : InRange size mode
-  pub long : length slot ≡ size
   pub given : Data size mode message
 
 -- the first n words have a count, the sum of them is the count, and the data of these words stand where they belong

@@ -6,9 +6,9 @@ ghost use Prim.Native.Nat.{_*_};
 ghost use lib.ListN.{length};
 ghost use Rattle.slot_laws.specs.Sizes.{wordLength};
 ghost use Rattle.slot_laws.specs.Order.{Data};
-ghost use Rattle.slot_interleaving.specs.Inner.{AtWord};
+ghost use Rattle.slot_interleaving.specs.Inner.{AtWord, SlotAndData};
 ghost use Rattle.slot_clean.specs.Inner.{wordFrom, SemiOctetsOf};
-ghost use Rattle.slot_repair.specs.Inner.{Rooms, SlotAndRoom, AllArrived, IsGathered, IsRepair, IsRepairFrom};
+ghost use Rattle.slot_repair.specs.Inner.{Rooms, AllArrived, IsGathered, IsRepair, IsRepairFrom};
 
 // Whether every word was corrected: the count of all changes, or a word beyond repair.
 pub enum Outcome {
@@ -115,7 +115,7 @@ fn repair(size: usize, mode: usize, places: &[u8], message: &mut [u8]) -> Outcom
 
 // The data of the slot, with every word corrected.
 pub fn correct_slot(size: usize, mode: usize, slot: &[u8], message: &mut [u8]) -> Outcome
-    requires { ⌜ SlotAndRoom size mode (now slot) (now message) ⌝ }
+    requires { ⌜ SlotAndData size mode (now slot) (now message) ⌝ }
     ensures { λ r. ⌜ IsRepair size mode (now (slot .entry)) (now (message .exit)) r ⌝ }
 {
     let mut places = [0u8; 800];

@@ -6,6 +6,7 @@ ghost use Prim.Native.Nat.{_+_, _*_, _≤_, _<_};
 ghost use Rattle.slot_laws.specs.Sizes.{InRange, words, wordLength, concealWords, conceal};
 ghost use Rattle.slot_laws.specs.Sizes.{hash1, hash2, frameSize, IsHeadingSize, IsDataSize, IsFrameSize};
 
+// The number of code words (A.7).
 pub fn word_count(size: usize) -> usize
     requires { ⌜ size ≤ 400 ⌝ }
     ensures { λ r. ⌜ r ≡ words size ⌝ }
@@ -14,6 +15,7 @@ pub fn word_count(size: usize) -> usize
     (2 * size + 14) / 15
 }
 
+// The semi-octets of word i of so many (A.8).
 pub fn word_length(size: usize, count: usize, i: usize) -> usize
     requires { ⌜ 40 ≤ size ⌝ }
     requires { ⌜ size ≤ 400 ⌝ }
@@ -24,6 +26,7 @@ pub fn word_length(size: usize, count: usize, i: usize) -> usize
     (2 * size - i - 1) / count + 1
 }
 
+// The bytes of the first hash with the request (A.13).
 pub fn first_hash_size(size: usize) -> usize
     ensures { λ r. ⌜ r ≡ hash1 size ⌝ }
     ensures { λ r. ⌜ 2 ≤ r ⌝ }
@@ -35,6 +38,7 @@ pub fn first_hash_size(size: usize) -> usize
     }
 }
 
+// The bytes of the second hash (A.14).
 pub fn second_hash_size(size: usize, mode: usize) -> usize
     ensures { λ r. ⌜ r ≡ hash2 size mode ⌝ }
     ensures { λ r. ⌜ r ≤ 2 ⌝ }
@@ -82,6 +86,7 @@ pub fn conceal_size(size: usize, mode: usize) -> usize
     sum
 }
 
+// The bytes of the frame (A.15).
 pub fn frame_bytes(size: usize, mode: usize) -> usize
     requires { ⌜ InRange size mode ⌝ }
     ensures { λ r. ⌜ r ≡ frameSize size mode ⌝ }

@@ -9,6 +9,7 @@ pub struct WordAnswer {
     pub count: u8,
 }
 
+// A word's check semi-octets made, or 1.
 #[no_mangle]
 pub extern "C" fn word_make(word: &mut [u8], mode: u32) -> u8
     ensures { λ r. ⌜ Makes mode (now (word .entry)) (now (word .exit)) r ⌝ }
@@ -16,6 +17,7 @@ pub extern "C" fn word_make(word: &mut [u8], mode: u32) -> u8
     code_word::make(word, mode).number()
 }
 
+// A word corrected: the answer's number and the count.
 #[no_mangle]
 pub extern "C" fn word_correct(word: &mut [u8], mode: u32) -> WordAnswer
     ensures { λ r. ⌜ Corrects mode (now (word .entry)) (now (word .exit)) (r .number) (r .count) ⌝ }
@@ -27,6 +29,7 @@ pub extern "C" fn word_correct(word: &mut [u8], mode: u32) -> WordAnswer
     }
 }
 
+// Many words corrected: the answer's number.
 #[no_mangle]
 pub extern "C" fn word_correct_each(words: &mut [u8], mode: u32, counts: &mut [u8]) -> u8
     ensures { λ r. ⌜ CorrectsEach mode (now (words .entry)) (now (counts .entry)) (now (words .exit)) (now (counts .exit)) r ⌝ }

@@ -2,7 +2,7 @@
 use Rattle.frame_pairs.proofs.read_pairs.Statement.{statement}
 use Rattle.frame_pairs.proofs.read_pairs.Tie as tie
 use mathlib.Core.Path.{_≡_, sym, _∙_}
-use Prim.Native.Nat.{ℕ, _+_, _-_, _*_, _≤_, _<_}
+use Prim.Native.Nat.{_+_, _-_, _*_, _≤_, _<_}
 use native.Mathlib.Omega.{arith}
 use lib.ListN.{length, length-set}
 use denote.Ref.{now}

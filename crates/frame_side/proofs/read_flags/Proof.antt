@@ -1,7 +1,5 @@
 -- `frame_side::read_flags` meets its contract. No field leaves the frame. Assumes nothing.
-use mathlib.Core.Path.{sym}
 use native.Mathlib.Omega.{arith}
-use denote.Ref.{now}
 use borrow.Author.Needs.{needs}
 use Rattle.frame_side.proofs.read_flags.Statement.{statement}
 use Prim.Native.Nat.{_<_}

@@ -1,7 +1,6 @@
 -- `frame_side::read_head` meets its contract. No field leaves the frame, so a cause is 1 or 2. Assumes nothing.
 use mathlib.Core.Path.{sym}
 use native.Mathlib.Omega.{arith}
-use denote.Ref.{now}
 use borrow.Author.Needs.{needs}
 use Rattle.frame_side.proofs.read_head.Statement.{statement}
 use Prim.Native.Nat.{_<_}

@@ -1,7 +1,5 @@
 -- `frame_side::read_tail` meets its contract. No field leaves the frame. Assumes nothing.
-use mathlib.Core.Path.{_≡_}
 use native.Mathlib.Omega.{arith}
-use denote.Ref.{now}
 use borrow.Author.Needs.{needs}
 use Rattle.frame_side.proofs.read_tail.Statement.{statement}
 use Rattle.frame_bits.proofs.SideBits.{in-more}

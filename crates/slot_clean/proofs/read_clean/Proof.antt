@@ -1,12 +1,11 @@
 -- `slot_clean::read_clean` meets its contract. The loop has the data of the first words where they belong, each under its own word.
 -- Assumes nothing.
-use mathlib.Core.Path.{_≡_, refl, sym, _∙_}
+use mathlib.Core.Path.{_≡_, sym, _∙_}
 use mathlib.Core.Bool.{true≢false}
 use Prim.Native.Nat.{_≤_, _-_, _+_}
 use native.Mathlib.Omega.{arith}
 use borrow.Author.Tests.{not-false}
 use borrow.Author.Needs.{needs}
-use borrow.Rule.Slice.PartMut.{putMid}
 use Rattle.laws.specs.Tab.{total}
 use Rattle.slot_laws.specs.Sizes.{dataLength}
 use Rattle.slot_laws.specs.Order.{Data}

@@ -3,7 +3,6 @@ use Prim.Native.Nat.{_≤_, _<_, _-_}
 use native.Mathlib.Omega.{arith}
 use borrow.Author.Needs.{needs}
 use Rattle.code_word_laws.specs.Word.{distance}
-use Rattle.slot_laws.specs.Sizes.{wordLength}
 use Rattle.slot_clean.specs.Inner.{checksFrom}
 use Rattle.slot_interleaving.proofs.PlaceSteps.{check-in, has-place, in-row}
 use Rattle.slot_clean.proofs.CleanSteps.{check-at, length-checks, Compared, compared-first, compared-next, compared-last}

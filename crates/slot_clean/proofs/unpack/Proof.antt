@@ -1,5 +1,5 @@
 -- `slot_clean::unpack` meets its contract. The invariant of its loop stands at the head. Assumes nothing.
-use mathlib.Core.Path.{_≡_, refl}
+use mathlib.Core.Path.{refl}
 use Prim.Native.Nat.{_≤_, _-_, _*_, _%_}
 use native.Mathlib.Omega.{arith}
 use lib.ListN.{length, getD, length-set}

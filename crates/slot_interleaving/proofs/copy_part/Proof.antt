@@ -3,7 +3,7 @@ use Rattle.slot_interleaving.proofs.PlaceSteps.{copy-is}
 use Rattle.laws.proofs.Fill.{Filled, filled-first, filled-next}
 use lib.ListN.{length, getD}
 use native.Mathlib.Omega.{arith}
-use mathlib.Core.Path.{_≡_, refl}
+use mathlib.Core.Path.{refl}
 use Prim.Native.Nat.{ℕ, _≤_, _-_, _+_}
 use borrow.Author.Needs.{needs}
 use Rattle.slot_interleaving.proofs.copy_part.Statement.{statement}

@@ -4,7 +4,7 @@ use Rattle.laws.proofs.Fill.{Filled, filled-first, filled-next}
 use lib.ListN.{length, getD}
 use native.Mathlib.Omega.{arith}
 use mathlib.Core.List.{List}
-use mathlib.Core.Path.{_≡_, refl}
+use mathlib.Core.Path.{refl}
 use Prim.Native.Nat.{ℕ, _≤_, _-_, _+_, _*_}
 use borrow.Author.Needs.{needs}
 use Rattle.slot_interleaving.proofs.pack_bytes.Statement.{statement}

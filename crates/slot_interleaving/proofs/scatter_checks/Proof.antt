@@ -1,13 +1,12 @@
 -- `slot_interleaving::scatter_checks` meets its contract. The invariant of its loop stands at the head. Assumes nothing.
-use mathlib.Core.Path.{_≡_, refl}
+use mathlib.Core.Path.{_≡_}
 use mathlib.Core.List.{[]}
-use Prim.Native.Nat.{_≤_, _<_, _-_, _+_}
+use Prim.Native.Nat.{_≤_, _-_}
 use native.Mathlib.Omega.{arith}
 use lib.ListN.{drop}
 use borrow.Author.Needs.{needs}
 use Rattle.code_word_laws.specs.Word.{distance}
 use Rattle.code_word_laws.specs.Register.{withChecks}
-use Rattle.slot_laws.specs.Sizes.{wordLength}
 use Rattle.slot_interleaving.specs.Inner.{ChecksSpanned}
 use Rattle.code_word_laws.proofs.Checks.{digits-length, digits-start, with-checks-turn}
 use Rattle.slot_laws.proofs.Sizes.{length-low}

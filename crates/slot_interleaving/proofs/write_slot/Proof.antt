@@ -1,6 +1,6 @@
 -- `slot_interleaving::write_slot` meets its contract. The invariant of its loop stands at the head. Assumes nothing.
 use mathlib.Core.Path.{_≡_, refl, sym}
-use Prim.Native.Nat.{_≤_, _-_, _+_, _<_}
+use Prim.Native.Nat.{_≤_, _-_, _+_}
 use native.Mathlib.Omega.{arith}
 use borrow.Author.Needs.{needs}
 use Rattle.laws.specs.Tab.{total}
@@ -42,7 +42,7 @@ part : (c : tie.After-word-length Inv-loop μ-loop) → let h = c .before .befor
 part c =
     let h = c .before .before in
     let s = begin h in
-    word-part (s .pre .0) (h .before .before .before .word-count .ensures .0) (c .before .loop-test .taken) (h .loop .inv .1) (s .pre .1)
+    word-part (s .pre .range) (h .before .before .before .word-count .ensures .0) (c .before .loop-test .taken) (h .loop .inv .1) (s .pre .given)
     (c .word-length .ensures .0) (h .before .before .distance .ensures)
 
 add-e : tie.Need-add-e Inv-loop μ-loop
@@ -94,13 +94,13 @@ pack-bytes-requires c κs =
     let h = c .before .before .before in
     let s = begin h in
     let a = s .args in
-    let z = s .pre .0 .size-to in
+    let z = s .pre .range .size-to in
     record {
-      many = omega (arith, s .pre .2, h .loop .inv .2 .long, z);
-      few = omega (arith, s .pre .2, z);
+      many = omega (arith, s .pre .long, h .loop .inv .2 .long, z);
+      few = omega (arith, s .pre .long, z);
       below = λ p q.
-          placed-below (s .pre .0 .size-from) (all-words (a .size) (a .mode) (a .message .now) (s .pre .0) (s .pre .1)) (h .loop .inv .2)
-          (signature-lt (a .mode)) (all-placed (c .before .before)) p (omega (arith, s .pre .2, q));
+          placed-below (s .pre .range .size-from) (all-words (a .size) (a .mode) (a .message .now) (s .pre .range) (s .pre .given)) (h .loop .inv .2)
+          (signature-lt (a .mode)) (all-placed (c .before .before)) p (omega (arith, s .pre .long, q));
     }
 
 same-length : tie.Need-same-length Inv-loop μ-loop
@@ -110,7 +110,7 @@ returns : tie.Need-returns Inv-loop μ-loop
 returns c =
     let o = c .before .before .before .before .before in
     let s = begin (o .before) in
-    written (s .args .slot .now) (s .pre .0) (s .pre .1) (s .pre .2) (o .before .loop .inv .2) (all-placed o)
+    written (s .args .slot .now) (s .pre .range) (s .pre .given) (s .pre .long) (o .before .loop .inv .2) (all-placed o)
     (c .before .before .pack-bytes .ensures)
 
 pub write-slot-spec : {M : Type 1} → statement M
