@@ -4,6 +4,7 @@ use mathlib.Core.Path.{_≡_, refl, sym, ap, ap₂, _∙_}
 use mathlib.Core.Bool.{Bool, true, false, cond}
 use Prim.Native.Nat.{ℕ, _+_, _*_, _-_, _/_, _≤_, _<_}
 use native.Mathlib.Omega.{arith}
+use native.Mathlib.Nat.{le-div-iff-mul-le, div-lt-iff-lt-mul}
 use native.Mathlib.Numerals.{add-one}
 use lib.Dec.{eqb, leb, eqb→eq}
 use borrow.Author.Tests.{eq-eqb, ne-eqb, le-leb, lt-leb}
@@ -12,23 +13,41 @@ use Rattle.laws.proofs.Every.{at}
 use Rattle.laws.proofs.Tab.{total-next, total-none}
 use Rattle.code_word_laws.specs.Word.{distance}
 use Rattle.slot_laws.specs.Sizes.{InRange, words, wordLength, dataLength, concealWords, block, conceal, hash1, hash2, frameSize}
-use Rattle.slot_laws.proofs.Sizes.{length-low, length-high, overhead, conceal-few, conceal-fits}
+use Rattle.slot_laws.proofs.Sizes.{words-thirteen, length-low, length-high, overhead, conceal-few, conceal-fits}
 
 pub word-count-is : (size r : ℕ) → size ≤ 400 → r ≡ (2 * size + 14) / 15 → (r ≡ words size) × (r ≤ 54)
 unfolding words
 word-count-is size r h e = (e, omega arith)
 
-length-as : (size count i : ℕ) → count ≡ words size → (2 * size - i - 1) / count + 1 ≡ wordLength size i
+-- how a word's length compares with a number, without the division
+length-from : (size count i k : ℕ) → count ≡ words size → 0 < count → k * count ≤ 2 * size - i - 1 → k + 1 ≤ wordLength size i
 unfolding wordLength
-length-as size count i e = ap (λ (x : ℕ). (2 * size - i - 1) / x + 1) e
+length-from size count i k e p h = let q = rw e at (le-div-iff-mul-le p .1 h) in omega arith
 
-pub word-length-is : (size count i r : ℕ) → 40 ≤ size → count ≡ words size → i < words size → r ≡ (2 * size - i - 1) / count + 1
-    → (r ≡ wordLength size i) × (13 ≤ r) × (r ≤ 15)
-word-length-is size count i r h c l e =
-    let d : r ≡ wordLength size i = e ∙ length-as size count i c in
-    let a = length-low size i h l in
-    let b = length-high size i h in
-    (d, omega arith, omega arith)
+length-to : (size count i k : ℕ) → count ≡ words size → 0 < count → 2 * size - i - 1 < k * count → wordLength size i ≤ k
+unfolding wordLength
+length-to size count i k e p h = let q = rw e at (div-lt-iff-lt-mul p .1 h) in omega arith
+
+module _ (size count i : ℕ) (from : 40 ≤ size) (is : count ≡ words size) (in-slot : i < words size) where
+  pub length-thirteen : 2 * size - i ≤ 13 * count → (13 ≡ wordLength size i) × (13 ≤ 13) × (13 ≤ 15)
+  length-thirteen h =
+      let w = words-thirteen size from in
+      let a = length-low size i from in-slot in
+      let b = length-to size count i 13 is (omega arith) (omega arith) in
+      (omega arith, omega arith, omega arith)
+
+  pub length-fourteen : 13 * count < 2 * size - i → 2 * size - i ≤ 14 * count → (14 ≡ wordLength size i) × (13 ≤ 14) × (14 ≤ 15)
+  length-fourteen g h =
+      let w = words-thirteen size from in
+      let a = length-from size count i 13 is (omega arith) (omega arith) in
+      let b = length-to size count i 14 is (omega arith) (omega arith) in
+      (omega arith, omega arith, omega arith)
+
+  pub length-fifteen : 14 * count < 2 * size - i → (15 ≡ wordLength size i) × (13 ≤ 15) × (15 ≤ 15)
+  length-fifteen h =
+      let a = length-from size count i 14 is (omega arith) (omega arith) in
+      let b = length-high size i from in
+      (omega arith, omega arith, omega arith)
 
 -- ---- hashes
 

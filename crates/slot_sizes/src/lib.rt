@@ -15,7 +15,7 @@ pub fn word_count(size: usize) -> usize
     (2 * size + 14) / 15
 }
 
-// The semi-octets of word i of so many (A.8).
+// The semi-octets of word i of so many (A.8): 13, 14 or 15, so that no division is needed.
 pub fn word_length(size: usize, count: usize, i: usize) -> usize
     requires { ⌜ 40 ≤ size ⌝ }
     requires { ⌜ size ≤ 400 ⌝ }
@@ -23,7 +23,14 @@ pub fn word_length(size: usize, count: usize, i: usize) -> usize
     requires { ⌜ i < words size ⌝ }
     ensures { λ r. ⌜ (r ≡ wordLength size i) × (13 ≤ r) × (r ≤ 15) ⌝ }
 {
-    (2 * size - i - 1) / count + 1
+    let end = 2 * size - i;
+    if end <= 13 * count {
+        return 13;
+    }
+    if end <= 14 * count {
+        return 14;
+    }
+    15
 }
 
 // The bytes of the first hash with the request (A.13).

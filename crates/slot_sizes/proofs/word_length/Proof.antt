@@ -1,34 +1,35 @@
--- `slot_sizes::word_length` meets its contract. Assumes nothing.
-use Rattle.slot_sizes.proofs.SizeSteps.{word-length-is}
+-- `slot_sizes::word_length` meets its contract: a law for each of the three lengths. Assumes nothing.
+use Rattle.slot_sizes.proofs.SizeSteps.{length-thirteen, length-fourteen, length-fifteen}
 use Rattle.slot_laws.proofs.Sizes.{words-thirteen}
 use native.Mathlib.Omega.{arith}
-use mathlib.Core.Path.{refl}
-use Prim.Native.Nat.{_+_, _*_, _-_, _/_}
 use borrow.Author.Needs.{needs}
 use Rattle.slot_sizes.proofs.word_length.Statement.{statement}
 use Rattle.slot_sizes.proofs.word_length.Tie as tie
 
-sub-result : tie.Need-sub-result
-sub-result c = let w = words-thirteen (c .args .size) (omega arith) in omega arith
+sub-end : tie.Need-sub-end
+sub-end c = let w = words-thirteen (c .args .size) (omega arith) in omega arith
 
-sub-result-2 : tie.Need-sub-result-2
-sub-result-2 c = let w = words-thirteen (c .args .size) (omega arith) in omega arith
+mul-if1 : tie.Need-mul-if1
+mul-if1 c = let w = words-thirteen (c .args .size) (omega arith) in omega arith
 
-add-result : tie.Need-add-result
-add-result c =
-    let a = c .args in
-    let v = (2 * a .size - a .i - 1) / a .count + 1 in
-    let w = word-length-is (a .size) (a .count) (a .i) v (omega arith) (omega arith) (omega arith) refl in
-    omega (arith, w .2)
+mul-if2 : tie.Need-mul-if2
+mul-if2 c = let w = words-thirteen (c .before .args .size) (omega arith) in omega arith
 
 returns : tie.Need-returns
-returns c =
-    let a = c .args in
-    let v = (2 * a .size - a .i - 1) / a .count + 1 in
-    word-length-is (a .size) (a .count) (a .i) v (omega arith) (omega arith) (omega arith) refl
+returns c = let a = c .before .args in length-thirteen (a .size) (a .count) (a .i) (omega arith) (omega arith) (omega arith) (omega arith)
+
+returns-2 : tie.Need-returns-2
+returns-2 c =
+    let a = c .before .before .args in
+    length-fourteen (a .size) (a .count) (a .i) (omega arith) (omega arith) (omega arith) (omega arith) (omega arith)
+
+returns-3 : tie.Need-returns-3
+returns-3 c =
+    let a = c .before .before .args in
+    length-fifteen (a .size) (a .count) (a .i) (omega arith) (omega arith) (omega arith) (omega arith)
 
 pub word-length-spec : {M : Type 1} → statement M
 word-length-spec =
     tie.close
     (tie.spec
-    (λ c. search needs) sub-result sub-result-2 (λ c. search needs) add-result returns)
+    (λ c. search needs) sub-end mul-if1 returns mul-if2 returns-2 returns-3)
