@@ -28,7 +28,7 @@ pub fn read(khz: u32, frame: &[u8], spectrum: &mut [i32], residual: &mut [u8]) -
         Answers (told r) (judgedOf khz (now (frame .entry)) (length (now (spectrum .entry))) (length (now (residual .entry))))
         (now (spectrum .entry)) (now (spectrum .exit)) (now (residual .entry)) (now (residual .exit))
         ⌝ }
-    ensures { λ r. ⌜ Bounded (r .answer) (now (spectrum .exit)) ⌝ }
+    ensures { λ r. ⌜ Bounded (told r) (now (spectrum .exit)) ⌝ }
 {
     let known = frame_settings::rate_setting(khz);
     let Rate::Known(r) = known else {
@@ -49,7 +49,7 @@ fn read_sized(r: Setting, frame: &[u8], spectrum: &mut [i32], residual: &mut [u8
         Answers (told o) (judgedSized r (now (frame .entry)) (length (now (spectrum .entry))) (length (now (residual .entry))))
         (now (spectrum .entry)) (now (spectrum .exit)) (now (residual .entry)) (now (residual .exit))
         ⌝ }
-    ensures { λ o. ⌜ Bounded (o .answer) (now (spectrum .exit)) ⌝ }
+    ensures { λ o. ⌜ Bounded (told o) (now (spectrum .exit)) ⌝ }
 {
     let lines = r.lines;
     if spectrum.len() != lines {

@@ -15,7 +15,7 @@ use Rattle.frame_coder.specs.Symbol.{startOf}
 use Rattle.frame_tns.specs.Tns.{Filter, filterOf, filterGiven, unused}
 use Rattle.frame_spectral.specs.Spectral.{Spectral, spectralFrom, spectralGiven}
 use Rattle.frame_arithmetic.specs.Answers.{Whole, arithmeticFrom}
-use Rattle.frame_arithmetic.specs.Answers.{Judged, refused, judgedRead, givenOf, Answers, told}
+use Rattle.frame_arithmetic.specs.Answers.{Judged, refused, judgedRead, Given, givenOf, Answers, told}
 use Rattle.frame_pairs.specs.Sound.{Small}
 use Rattle.frame_tns.specs.Sound.{TnsTables, GoodFilter}
 use Rattle.frame_spectral.specs.Sound.{GoodSpectral}
@@ -107,7 +107,12 @@ third-refused s r v p o u c d g lines bits k last h w f i a =
 
 abbrev pub Answered : Reading → Judged → List ℤ → List ℤ → List ℕ → List ℕ → Type 0
 Answered o j spectrum spectrum′ residual residual′ =
-    Answers (told o) j spectrum spectrum′ residual residual′ × Bounded (o .answer) spectrum′
+    Answers (told o) j spectrum spectrum′ residual residual′ × Bounded (told o) spectrum′
+
+-- a refusal is bounded by its cause alone
+pub refused-bounds : (g : Given) (lines : List ℤ) → 1 ≤ g .number → (g .number ≡ 5 → 1 ≤ g .cause) → g .cause ≤ 7 → Bounded g lines
+refused-bounds g lines h a b =
+    record { symbols = λ z. absurd (omega arith); values = λ z. absurd (omega arith); cause-from = a; cause-to = b }
 
 -- the same by an equal judgement
 pub answers-by : (o : Reading) (i j : Judged) (spectrum spectrum′ : List ℤ) (residual residual′ : List ℕ) → i ≡ j
@@ -118,13 +123,15 @@ pub answers-setting : (o : Reading) (j : Judged) (spectrum : List ℤ) (residual
     → o ≡ record { answer = answer.Setting; «tns_coefficients_0» = unused; «tns_coefficients_1» = unused } → j ≡ refused 1 0
     → Answered o j spectrum spectrum residual residual
 unfolding givenOf
-answers-setting o j spectrum residual e f = rw (e, f) (record { given = refl; lines = refl; bits = refl }, tt)
+answers-setting o j spectrum residual e f = rw (e, f)
+    (record { given = refl; lines = refl; bits = refl }, refused-bounds _ spectrum (omega arith) (λ z. absurd (omega arith)) (omega arith))
 
 pub answers-length : (o : Reading) (j : Judged) (spectrum : List ℤ) (residual : List ℕ)
     → o ≡ record { answer = answer.Length; «tns_coefficients_0» = unused; «tns_coefficients_1» = unused } → j ≡ refused 2 0
     → Answered o j spectrum spectrum residual residual
 unfolding givenOf
-answers-length o j spectrum residual e f = rw (e, f) (record { given = refl; lines = refl; bits = refl }, tt)
+answers-length o j spectrum residual e f = rw (e, f)
+    (record { given = refl; lines = refl; bits = refl }, refused-bounds _ spectrum (omega arith) (λ z. absurd (omega arith)) (omega arith))
 
 pub answers-cause : (o : Reading) (x : Read ℕ Whole) (k : ℕ) (spectrum spectrum′ : List ℤ) (residual residual′ : List ℕ)
     → o ≡ record { answer = answer.BitError k; «tns_coefficients_0» = unused; «tns_coefficients_1» = unused } → x ≡ cause k
@@ -132,7 +139,7 @@ pub answers-cause : (o : Reading) (x : Read ℕ Whole) (k : ℕ) (spectrum spect
     → Answered o (judgedRead x) spectrum spectrum′ residual residual′
 unfolding givenOf
 answers-cause o x k spectrum spectrum′ residual residual′ e f a b h = rw (e, f, a, b)
-    (record { given = refl; lines = refl; bits = refl }, h)
+    (record { given = refl; lines = refl; bits = refl }, refused-bounds _ spectrum (omega arith) (λ z. h .0) (h .1))
 
 pub answers-value : (x : Read ℕ Whole) (v : Side) (f g : Filter) (y : Spectral) (q : ℕ) (spectrum : List ℤ) (residual : List ℕ)
     → x ≡ value (record { side = v; first = f; second = g; spectral = y }) q
@@ -151,4 +158,7 @@ pub answers-value : (x : Read ℕ Whole) (v : Side) (f g : Filter) (y : Spectral
     })
     (judgedRead x) spectrum (y .lines) residual (y .residual .bits)
 unfolding givenOf
-answers-value x v f g y q spectrum residual e h = rw e (record { given = refl; lines = refl; bits = refl }, h)
+answers-value x v f g y q spectrum residual e h = rw e (
+  record { given = refl; lines = refl; bits = refl },
+  record { symbols = λ z. h .0; values = λ z. h .1; cause-from = λ z. absurd (omega arith); cause-to = omega arith },
+)

@@ -82,7 +82,7 @@ pub fn read_arithmetic(
         Answers (told o) (judgedRead (arithmeticFrom (now (frame .entry)) r v p))
         (now (spectrum .entry)) (now (spectrum .exit)) (now (residual .entry)) (now (residual .exit))
         ⌝ }
-    ensures { λ o. ⌜ Bounded (o .answer) (now (spectrum .exit)) ⌝ }
+    ensures { λ o. ⌜ Bounded (told o) (now (spectrum .exit)) ⌝ }
 {
     let orders = coder_tables::tns_order();
     let rows = coder_tables::tns_coefficients();

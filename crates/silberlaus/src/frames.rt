@@ -5,7 +5,8 @@ ghost use lib.ListN.{length};
 ghost use Rattle.frame_settings.specs.Settings.{lineCount};
 ghost use Rattle.frame.specs.Frame.{judgedOf};
 ghost use Rattle.frame_arithmetic.specs.Answers.{Answers};
-ghost use Rattle.silberlaus_frames.specs.Frames.{frameGiven, judgedEntry, Bounded};
+ghost use Rattle.frame_arithmetic.specs.Sound.{Bounded};
+ghost use Rattle.silberlaus_frames.specs.Frames.{frameGiven, judgedEntry};
 use silberlaus_frames::SilberlausFrame;
 
 // The lines of a rate, 0 where it is none.
@@ -29,7 +30,7 @@ pub extern "C" fn silberlaus_read_frame(
         (judgedOf khz (now (bytes .entry)) (length (now (spectrum .entry))) (length (now (residual .entry))))
         (now (spectrum .entry)) (now (spectrum .exit)) (now (residual .entry)) (now (residual .exit))
         ⌝ }
-    ensures { λ r. ⌜ Bounded (r .number) (r .cause) (r .symbols) (r .«last_line») (now (spectrum .exit)) ⌝ }
+    ensures { λ r. ⌜ Bounded (frameGiven r) (now (spectrum .exit)) ⌝ }
 {
     silberlaus_frames::read_frame(khz, bytes, spectrum, residual)
 }
@@ -48,7 +49,7 @@ pub extern "C" fn silberlaus_read_entry(
         (judgedEntry khz (now (bytes .entry)) place (length (now (spectrum .entry))) (length (now (residual .entry))))
         (now (spectrum .entry)) (now (spectrum .exit)) (now (residual .entry)) (now (residual .exit))
         ⌝ }
-    ensures { λ r. ⌜ Bounded (r .number) (r .cause) (r .symbols) (r .«last_line») (now (spectrum .exit)) ⌝ }
+    ensures { λ r. ⌜ Bounded (frameGiven r) (now (spectrum .exit)) ⌝ }
 {
     silberlaus_frames::read_entry(bytes, place, khz, spectrum, residual)
 }

@@ -1,6 +1,6 @@
 -- From the answer of the frame reader to that of the C face, and what reading an entry of a record answers, case by case.
 -- Assumes nothing.
-use mathlib.Core.Path.{_≡_, refl, sym, ap, _∙_}
+use mathlib.Core.Path.{_≡_, refl, sym, ap, _∙_, subst}
 use mathlib.Core.Bool.{Bool, true, false, cond, and-false}
 use mathlib.Core.Option.{Option, none, some}
 use mathlib.Core.List.{List}
@@ -14,7 +14,8 @@ use Rattle.frame_settings.specs.Settings.{rateOf, linesAt, lineCount}
 use Rattle.frame_settings.proofs.Rates.{rate-unknown}
 use Rattle.frame_arithmetic.specs.Answers.{Judged, refused, judgedRead, Given, answered, told, givenOf, refusedWith, Answers}
 use Rattle.frame.specs.Frame.{judgedAt, judgedOf, frameOf}
-use Rattle.frame_arithmetic.specs.Sound as sound
+use Rattle.frame_arithmetic.specs.Sound.{Bounded}
+use Rattle.frame_arithmetic.proofs.ArithmeticSteps.{refused-bounds}
 use Rattle.frame_settings.specs.declared.Setting.{Setting}
 use Rattle.frame_settings.specs.declared.Rate.{Rate}
 use Rattle.frame_settings.specs.declared.Rate.the-variants as rate
@@ -27,56 +28,29 @@ use Rattle.record.specs.Answers.{frameAt, entryOf, entryAnswer, framePart}
 use Rattle.record.specs.Answers as part
 use Rattle.record_bytes.proofs.Numbers.{Bytes}
 use Rattle.record.proofs.Answered.{frame-sized, frame-past, frame-missing}
-use Rattle.silberlaus_frames.specs.Frames.{frameGiven, judgedPlace, judgedIn, judgedEntry, missing, Bounded}
+use Rattle.silberlaus_frames.specs.Frames.{frameGiven, judgedPlace, judgedIn, judgedEntry, missing}
 use Rattle.silberlaus_frames.specs.declared.SilberlausFrame.{SilberlausFrame}
-
--- ---- the bounds, over the number
-
-number-is : {a b : Given} → a ≡ b → a .number ≡ b .number
-number-is e = ap (λ (x : Given). x .number) e
-
-cause-is : {a b : Given} → a ≡ b → a .cause ≡ b .cause
-cause-is e = ap (λ (x : Given). x .cause) e
-
-symbols-are : {a b : Given} → a ≡ b → a .fields .symbols ≡ b .fields .symbols
-symbols-are e = ap (λ (x : Given). x .fields .symbols) e
-
-last-is : {a b : Given} → a ≡ b → a .fields .side .head .«last_line» ≡ b .fields .side .head .«last_line»
-last-is e = ap (λ (x : Given). x .fields .side .head .«last_line») e
-
-bounded : (a : Answer) (first second : List ℕ) (o : SilberlausFrame) (lines : List ℤ) → frameGiven o ≡ answered a first second
-    → sound.Bounded a lines
-    → Bounded (o .number) (o .cause) (o .symbols) (o .«last_line») lines
-bounded (answer.Read f) first second o lines e h = rw (number-is e, symbols-are e, last-is e) h
-bounded answer.Setting first second o lines e h = rw (number-is e, cause-is e) (omega arith)
-bounded answer.Length first second o lines e h = rw (number-is e, cause-is e) (omega arith)
-bounded (answer.BitError k) first second o lines e h = rw (number-is e, cause-is e) (h .1)
-
-bounded-at : (n : ℕ) → 1 ≤ n → (symbols last : ℕ) (lines : List ℤ) → Bounded n 0 symbols last lines
-bounded-at zero h symbols last lines = absurd (omega arith)
-bounded-at (suc n) h symbols last lines = omega arith
 
 -- ---- a return, from what was judged
 
 -- the answer, both buffers and the bounds of a judgement
 abbrev Answered : SilberlausFrame → Judged → List ℤ → List ℤ → List ℕ → List ℕ → Type 0
 Answered o j lines lines′ bits bits′ =
-    Answers (frameGiven o) j lines lines′ bits bits′ × Bounded (o .number) (o .cause) (o .symbols) (o .«last_line») lines′
+    Answers (frameGiven o) j lines lines′ bits bits′ × Bounded (frameGiven o) lines′
 
 pub refusal :
-    (j : Judged) (n : ℕ) (o : SilberlausFrame) (lines : List ℤ) (bits : List ℕ) → j ≡ refused n 0 → 1 ≤ n
+    (j : Judged) (n : ℕ) (o : SilberlausFrame) (lines : List ℤ) (bits : List ℕ) → j ≡ refused n 0 → 1 ≤ n → (n ≡ 5 → ⊥)
     → frameGiven o ≡ refusedWith n 0 → Answered o j lines lines bits bits
 unfolding givenOf
-refusal j n o lines bits e h g =
-    let b : Bounded (o .number) (o .cause) (o .symbols) (o .«last_line») lines =
-    rw (number-is g, cause-is g) (bounded-at n h (o .symbols) (o .«last_line») lines) in
-    rw e (record { given = g; lines = refl; bits = refl }, b)
+refusal j n o lines bits e h k g =
+    let b : Bounded (refusedWith n 0) lines = refused-bounds (refusedWith n 0) lines h (λ z. absurd (k z)) (omega arith) in
+    rw e (record { given = g; lines = refl; bits = refl }, subst (λ (x : Given). Bounded x lines) (sym g) b)
 
 pub reading :
     (j k : Judged) (r : Reading) (o : SilberlausFrame) (lines lines′ : List ℤ) (bits bits′ : List ℕ) → k ≡ j → frameGiven o ≡ told r
-    → Answers (told r) k lines lines′ bits bits′ → sound.Bounded (r .answer) lines′ → Answered o j lines lines′ bits bits′
+    → Answers (told r) k lines lines′ bits bits′ → Bounded (told r) lines′ → Answered o j lines lines′ bits bits′
 reading j k r o lines lines′ bits bits′ e g a b =
-    let c = bounded (r .answer) (r .«tns_coefficients_0») (r .«tns_coefficients_1») o lines′ g b in
+    let c = subst (λ (x : Given). Bounded x lines′) (sym g) b in
     rw (← e) (record { given = g ∙ a .given; lines = a .lines; bits = a .bits }, c)
 
 -- ---- the rate and the two buffers
@@ -102,6 +76,15 @@ no-place s place b r (some es) q z = go (ltb place (length es)) refl
     go : (x : Bool) → ltb place (length es) ≡ x → cond x (judgedRead (frameOf (frameAt es place) r)) (refused 1 0) ≡ refused (cond x 0 1) 0
     go true t = let f = frame-sized s es place b q (ltb-true place (length es) t) in absurd (omega (arith, f .0, z))
     go false t = refl
+
+-- the record and the place are refused by numbers of their own
+never-five : (o : Option (List RecordEntry)) (place : ℕ) → entryOf o place .number ≡ 5 → ⊥
+never-five none place e = omega arith
+never-five (some es) place e = go (ltb place (length es)) e
+  where
+    go : (x : Bool) → cond x 0 1 ≡ 5 → ⊥
+    go true e = omega arith
+    go false e = omega arith
 
 at-place : (s : List ℕ) (place : ℕ) → Bytes s → (r : Setting) (x : ℕ) → x ≡ r .lines → (y : ℕ) → y ≡ r .lines
     → (o : Option (List RecordEntry)) → readRecord s ≡ o → (length (part.frameOf o place) ≡ 0 → ⊥)
@@ -146,11 +129,11 @@ module _ (khz : ℕ) (s : List ℕ) (place x b : ℕ) where
 
   pub no-frame : Bytes s → (lineCount khz ≡ 0 → ⊥) → x ≡ lineCount khz → b ≡ lineCount khz → (p : List ℕ) → p ≡ framePart s place
       → length p ≡ 0
-      → (judgedEntry khz s place x b ≡ refused (missing s place) 0) × (1 ≤ missing s place)
+      → (judgedEntry khz s place x b ≡ refused (missing s place) 0) × (1 ≤ missing s place) × (missing s place ≡ 5 → ⊥)
   unfolding lineCount judgedEntry entryAnswer framePart
   no-frame i h e f p q z =
       let y : length (part.frameOf (readRecord s) place) ≡ 0 = sym (ap length q) ∙ z in
-      (empty-in (rateOf khz) s place x b i h e f y, frame-missing s place i y)
+      (empty-in (rateOf khz) s place x b i h e f y, frame-missing s place i y, never-five (readRecord s) place)
 
   -- an entry's frame is read as it stands in the record
   pub part-read : Bytes s → (lineCount khz ≡ 0 → ⊥) → x ≡ lineCount khz → b ≡ lineCount khz → (p : List ℕ) → p ≡ framePart s place

@@ -65,8 +65,3 @@ judgedEntry khz s place x b = judgedIn (rateOf khz) s place x b
 -- the record's own number for a place
 abbrev pub missing : List ℕ → ℕ → ℕ
 missing s place = entryAnswer s place .number
-
--- `frame`'s bounds, over the number: at most 18 + 7 x last line symbols, values in -32,767 to 32,767
-abbrev pub Bounded : ℕ → ℕ → ℕ → ℕ → List ℤ → Type 0
-Bounded zero why symbols last lines = (symbols ≤ 18 + 7 * last) × Small lines
-Bounded (suc number) why symbols last lines = why ≤ 7

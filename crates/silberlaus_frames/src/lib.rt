@@ -5,7 +5,8 @@ ghost use mathlib.Core.Path.{_≡_};
 ghost use lib.ListN.{length};
 ghost use Rattle.frame.specs.Frame.{judgedOf};
 ghost use Rattle.frame_arithmetic.specs.Answers.{noFields, refusedWith, Answers, told};
-ghost use Rattle.silberlaus_frames.specs.Frames.{given, frameGiven, judgedEntry, missing, Bounded};
+ghost use Rattle.frame_arithmetic.specs.Sound.{Bounded};
+ghost use Rattle.silberlaus_frames.specs.Frames.{given, frameGiven, judgedEntry, missing};
 use frame::Answer;
 use frame::Fields;
 use frame::Flags;
@@ -152,7 +153,7 @@ pub fn read_frame(
         (judgedOf khz (now (bytes .entry)) (length (now (spectrum .entry))) (length (now (residual .entry))))
         (now (spectrum .entry)) (now (spectrum .exit)) (now (residual .entry)) (now (residual .exit))
         ⌝ }
-    ensures { λ r. ⌜ Bounded (r .number) (r .cause) (r .symbols) (r .«last_line») (now (spectrum .exit)) ⌝ }
+    ensures { λ r. ⌜ Bounded (frameGiven r) (now (spectrum .exit)) ⌝ }
 {
     numbered(frame::read(khz, bytes, spectrum, residual))
 }
@@ -177,7 +178,7 @@ pub fn read_entry(
         (judgedEntry khz (now (bytes .entry)) place (length (now (spectrum .entry))) (length (now (residual .entry))))
         (now (spectrum .entry)) (now (spectrum .exit)) (now (residual .entry)) (now (residual .exit))
         ⌝ }
-    ensures { λ r. ⌜ Bounded (r .number) (r .cause) (r .symbols) (r .«last_line») (now (spectrum .exit)) ⌝ }
+    ensures { λ r. ⌜ Bounded (frameGiven r) (now (spectrum .exit)) ⌝ }
 {
     let lines = frame::line_count(khz);
     if lines == 0 {

@@ -30,7 +30,7 @@ returns c =
     refusal _ 1 (c .unread .result) _ _
     (no-rate (a .khz) (now (a .bytes)) (a .place) (length (now (a .spectrum))) (length (now (a .residual)))
     (omega (arith, l, c .before .if1 .taken)))
-    (omega arith) (c .unread .ensures)
+    (omega arith) (λ z. omega arith) (c .unread .ensures)
 
 returns-2 : tie.Need-returns-2
 returns-2 c =
@@ -39,7 +39,7 @@ returns-2 c =
     refusal _ 2 (c .unread2 .result) _ _
     (other-spectrum (a .khz) (now (a .bytes)) (a .place) (length (now (a .spectrum))) (length (now (a .residual)))
     (λ z. omega (arith, l, z, c .before .before .if1 .left)) (λ z. omega (arith, l, z, c .before .if2 .taken)))
-    (omega arith) (c .unread2 .ensures)
+    (omega arith) (λ z. omega arith) (c .unread2 .ensures)
 
 returns-3 : tie.Need-returns-3
 returns-3 c =
@@ -48,7 +48,7 @@ returns-3 c =
     refusal _ 2 (c .unread3 .result) _ _
     (other-residual (a .khz) (now (a .bytes)) (a .place) (length (now (a .spectrum))) (length (now (a .residual)))
     (λ z. omega (arith, l, z, c .before .before .before .if1 .left)) (λ z. omega (arith, l, z, c .before .if3 .taken)))
-    (omega arith) (c .unread3 .ensures)
+    (omega arith) (λ z. omega arith) (c .unread3 .ensures)
 
 returns-4 : tie.Need-returns-4
 returns-4 c =
@@ -58,7 +58,7 @@ returns-4 c =
     let n = no-frame (a .khz) (now (a .bytes)) (a .place) (length (now (a .spectrum))) (length (now (a .residual))) (t .0) (t .1) (t .2)
     (t .3)
     (now (f .frame .result)) (f .frame .ensures) (omega (arith, c .before .before .if4 .taken)) in
-    refusal _ _ (c .unread4 .result) _ _ (n .0) (n .1) (rw (c .before .why-missing .ensures) at (c .unread4 .ensures))
+    refusal _ _ (c .unread4 .result) _ _ (n .0) (n .1) (n .2) (rw (c .before .why-missing .ensures) at (c .unread4 .ensures))
 
 returns-5 : tie.Need-returns-5
 returns-5 c =
