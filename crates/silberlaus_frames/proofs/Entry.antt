@@ -4,7 +4,7 @@ use mathlib.Core.Path.{_≡_, refl, sym, ap, _∙_, subst}
 use mathlib.Core.Bool.{Bool, true, false, cond, and-false}
 use mathlib.Core.Option.{Option, none, some}
 use mathlib.Core.List.{List}
-use Prim.Native.Nat.{ℕ, zero, suc, _≤_}
+use Prim.Native.Nat.{ℕ, _≤_}
 use native.Mathlib.Omega.{arith}
 use lib.Dec.{ltb}
 use lib.ListN.{length}
@@ -12,7 +12,7 @@ use lib.IntN.{ℤ}
 use borrow.Author.Tests.{le-leb, ltb-true, ltb-false, eq-eqb, ne-eqb}
 use Rattle.frame_settings.specs.Settings.{rateOf, linesAt, lineCount}
 use Rattle.frame_settings.proofs.Rates.{rate-unknown}
-use Rattle.frame_arithmetic.specs.Answers.{Judged, refused, judgedRead, Given, answered, told, givenOf, refusedWith, Answers}
+use Rattle.frame_arithmetic.specs.Answers.{Judged, refused, judgedRead, Given, told, givenOf, refusedWith, Answers}
 use Rattle.frame.specs.Frame.{judgedAt, judgedOf, frameOf}
 use Rattle.frame_arithmetic.specs.Sound.{Bounded}
 use Rattle.frame_arithmetic.proofs.ArithmeticSteps.{refused-bounds}
@@ -20,8 +20,6 @@ use Rattle.frame_settings.specs.declared.Setting.{Setting}
 use Rattle.frame_settings.specs.declared.Rate.{Rate}
 use Rattle.frame_settings.specs.declared.Rate.the-variants as rate
 use Rattle.frame_arithmetic.specs.declared.Reading.{Reading}
-use Rattle.frame_arithmetic.specs.declared.Answer.{Answer}
-use Rattle.frame_arithmetic.specs.declared.Answer.the-variants as answer
 use Rattle.record_bytes.specs.Layout.{RecordEntry}
 use Rattle.record_bytes.specs.Reading.{readRecord}
 use Rattle.record.specs.Answers.{frameAt, entryOf, entryAnswer, framePart}
@@ -82,7 +80,7 @@ never-five : (o : Option (List RecordEntry)) (place : ℕ) → entryOf o place .
 never-five none place e = omega arith
 never-five (some es) place e = go (ltb place (length es)) e
   where
-    go : (x : Bool) → cond x 0 1 ≡ 5 → ⊥
+    go : (x : Bool) → _≡_ {A = ℕ} (cond x 0 1) 5 → ⊥
     go true e = omega arith
     go false e = omega arith
 

@@ -3,14 +3,12 @@
 use mathlib.Core.Bool.{cond, _&&_}
 use mathlib.Core.Option.{Option, none, some}
 use mathlib.Core.List.{List}
-use Prim.Native.Nat.{ℕ, zero, suc, _+_, _*_, _≤_}
+use Prim.Native.Nat.{ℕ}
 use lib.Dec.{ltb, eqb}
 use lib.ListN.{length}
-use lib.IntN.{ℤ}
 use Rattle.frame_settings.specs.Settings.{rateOf}
 use Rattle.frame_arithmetic.specs.Answers.{Judged, refused, judgedRead, Given}
 use Rattle.frame.specs.Frame.{frameOf}
-use Rattle.frame_pairs.specs.Sound.{Small}
 use Rattle.frame_settings.specs.declared.Setting.{Setting}
 use Rattle.frame_settings.specs.declared.Rate.{Rate}
 use Rattle.frame_settings.specs.declared.Rate.the-variants as rate
