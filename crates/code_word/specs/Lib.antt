@@ -1,3 +1,4 @@
--- What making and correcting a word answer: document 01's numbers and the values of each case, over the definitions of `code_word_laws`.
+-- What each answer to making and correcting a word promises, over the definitions of `code_word_laws` and the numbers of
+-- `code_word_answers`.
 pub mod Make
 pub mod Correct

@@ -5,80 +5,17 @@
 // What is out of range gets an answer of its own. specs/ of `code_word_laws` says what is right, and its proofs/ has the distance argument,
 // once for d.
 ghost use mathlib.Core.Path.{_≡_};
-ghost use Rattle.code_word.specs.Make as making;
 ghost use Rattle.code_word_laws.specs.Checks.{IsCheckRows, withData};
-ghost use Rattle.code_word.specs.Correct.{Corrects, numberOf, countOf, CorrectsEach, batchNumberOf};
-
-// Whether a word was made.
-pub enum Making {
-    Made,
-    Unsuitable,
-}
-
-impl Making {
-    // Document 01's number.
-    pub fn number(self) -> u8
-        ensures { λ r. ⌜ r ≡ making.numberOf self ⌝ }
-    {
-        match self {
-            Making::Made => 0,
-            Making::Unsuitable => 1,
-        }
-    }
-}
-
-// What correcting a word found: the count of changed semi-octets, or no valid word near enough.
-pub enum Correction {
-    Corrected(u8),
-    None,
-    Unsuitable,
-}
-
-impl Correction {
-    // Document 01's number.
-    pub fn number(self) -> u8
-        ensures { λ r. ⌜ r ≡ numberOf self ⌝ }
-    {
-        match self {
-            Correction::Corrected(_) => 0,
-            Correction::None => 3,
-            Correction::Unsuitable => 1,
-        }
-    }
-
-    // The count of changed semi-octets, 0 where nothing was corrected.
-    pub fn count(self) -> u8
-        ensures { λ r. ⌜ r ≡ countOf self ⌝ }
-    {
-        match self {
-            Correction::Corrected(n) => n,
-            Correction::None => 0,
-            Correction::Unsuitable => 0,
-        }
-    }
-}
-
-// Whether each of many words has its answer.
-pub enum Answers {
-    Given,
-    Unsuitable,
-}
-
-impl Answers {
-    // Document 01's number.
-    pub fn number(self) -> u8
-        ensures { λ r. ⌜ r ≡ batchNumberOf self ⌝ }
-    {
-        match self {
-            Answers::Given => 0,
-            Answers::Unsuitable => 1,
-        }
-    }
-}
+ghost use Rattle.code_word_answers.specs.Answers.{madeNumber, correctedNumber, correctedCount, answersNumber};
+ghost use Rattle.code_word.specs.Make.{Makes};
+ghost use Rattle.code_word.specs.Correct.{Corrects, CorrectsEach};
+pub use code_word_answers::Answers;
+pub use code_word_answers::Correction;
+pub use code_word_answers::Making;
 
 // The word's check semi-octets in front of its data (A.43 to A.45), in mode 2, 3 or 4.
 pub fn make(word: &mut [u8], mode: u32) -> Making
-    ensures { λ r. ⌜ making.Makes mode (now (word .entry)) (now (word .exit)) (making.numberOf r) ⌝ }
+    ensures { λ r. ⌜ Makes mode (now (word .entry)) (now (word .exit)) (madeNumber r) ⌝ }
 {
     if !code_word_settings::fits(mode, word.len()) {
         return Making::Unsuitable;
@@ -112,7 +49,7 @@ pub fn with_data(rows: &[u32; 208], k: usize, c: u8, r: u32) -> u32
 
 // Corrects a word of semi-octets to the only valid one of its length within m - 1 places.
 pub fn correct(word: &mut [u8], mode: u32) -> Correction
-    ensures { λ r. ⌜ Corrects mode (now (word .entry)) (now (word .exit)) (numberOf r) (countOf r) ⌝ }
+    ensures { λ r. ⌜ Corrects mode (now (word .entry)) (now (word .exit)) (correctedNumber r) (correctedCount r) ⌝ }
 {
     if !code_word_settings::fits(mode, word.len()) {
         return Correction::Unsuitable;
@@ -133,7 +70,7 @@ pub fn correct(word: &mut [u8], mode: u32) -> Correction
 // The table is made once for all of them.
 pub fn correct_each(words: &mut [u8], mode: u32, counts: &mut [u8]) -> Answers
     ensures { λ r. ⌜ CorrectsEach mode (now (words .entry)) (now (counts .entry)) (now (words .exit)) (now (counts .exit))
-        (batchNumberOf r) ⌝ }
+        (answersNumber r) ⌝ }
 {
     if counts.len() == 0 {
         return Answers::Unsuitable;

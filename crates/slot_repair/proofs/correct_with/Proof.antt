@@ -1,6 +1,6 @@
 -- `slot_repair::correct_with` meets its contract. What is left of each word is its answer, whatever the call's number. Assumes nothing.
 use borrow.Author.Needs.{needs}
-use Rattle.code_word.specs.Correct.{batchNumberOf}
+use Rattle.code_word_answers.specs.Answers.{answersNumber}
 use Rattle.slot_repair.proofs.BatchSteps.{Answered, answered, repaired}
 use Rattle.slot_repair.proofs.correct_with.Statement.{statement}
 use Rattle.slot_repair.proofs.correct_with.Tie as tie
@@ -21,7 +21,7 @@ each c =
     let e = c .correct-each in
     answered (a .size) (a .mode) (a .places .now) (r .last .1 .1 .1 .0) (a .counts .now) (s .pre .0 .range) (r .ensures)
     (s .pre .1 .0 .many)
-    (e .last .0) (e .last .1 .1 .0) (batchNumberOf (e .result)) (e .ensures)
+    (e .last .0) (e .last .1 .1 .0) (answersNumber (e .result)) (e .ensures)
 
 gather-requires : tie.Need-gather-requires
 gather-requires c κs =
