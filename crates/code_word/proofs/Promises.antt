@@ -15,6 +15,7 @@ use Rattle.code_word_laws.specs.Make.{NotMade}
 use Rattle.code_word_laws.specs.Correct.{
   WordCorrected,
   IsCorrected,
+  Untouched,
   IsNone,
   NotCorrected,
   lengthAt,
@@ -39,41 +40,44 @@ not-made-fitting mode old no-fit = record { unfit = λ m. no-fit (m .fits); kept
 
 -- ---- correcting a word
 
-pub not-corrected-fitting : (mode : ℕ) (old : List ℕ) → (Fits mode (length old) → ⊥) → NotCorrected mode old old 0
-not-corrected-fitting mode old no-fit = record { unfit = λ q. no-fit (q .fits); kept = refl; zeroed = refl }
+as-lent : (old : List ℕ) → Untouched old old 0 0
+as-lent old = record { kept = refl; zeroed = refl; no-bits = refl }
 
-pub not-corrected-elements : (mode : ℕ) (old : List ℕ) → (SemiOctets old → ⊥) → NotCorrected mode old old 0
-not-corrected-elements mode old not-semi = record { unfit = λ q. not-semi (q .semi-octets); kept = refl; zeroed = refl }
+pub not-corrected-fitting : (mode : ℕ) (old : List ℕ) → (Fits mode (length old) → ⊥) → NotCorrected mode old old 0 0
+not-corrected-fitting mode old no-fit = record { unfit = λ q. no-fit (q .fits); untouched = as-lent old }
 
-module _ (mode : ℕ) (old new : List ℕ) (n : ℕ) (fits : Fits mode (length old)) (semi : SemiOctets old)
-    (takenOff : WordCorrected (mode - 1 + 1) old new n) where
+pub not-corrected-elements : (mode : ℕ) (old : List ℕ) → (SemiOctets old → ⊥) → NotCorrected mode old old 0 0
+not-corrected-elements mode old not-semi = record { unfit = λ q. not-semi (q .semi-octets); untouched = as-lent old }
+
+module _ (mode : ℕ) (old new : List ℕ) (n b : ℕ) (fits : Fits mode (length old)) (semi : SemiOctets old)
+    (corrected : WordCorrected (mode - 1 + 1) old new n b) where
   same : mode - 1 + 1 ≡ mode
   same = omega (arith, fits .mode-from)
 
-  taken-off-in : WordCorrected mode old new n
-  taken-off-in = subst (λ (m : ℕ). WordCorrected m old new n) same takenOff
+  corrected-in : WordCorrected mode old new n b
+  corrected-in = subst (λ (m : ℕ). WordCorrected m old new n b) same corrected
 
-  pub is-none : mode - 1 < n → IsNone mode old new 0
+  pub is-none : mode - 1 < n → IsNone mode old new 0 0
   is-none h =
       record {
         correctable = record { fits = fits; semi-octets = semi };
-        none = taken-off-in .none (omega (arith, same));
-        kept = taken-off-in .kept (omega (arith, same));
-        zeroed = refl;
+        none = corrected-in .none (omega (arith, same));
+        untouched = record { kept = corrected-in .kept (omega (arith, same)); zeroed = refl; no-bits = refl };
       }
 
-  pub is-corrected : n ≤ mode - 1 → IsCorrected mode old new n
+  pub is-corrected : n ≤ mode - 1 → IsCorrected mode old new n b
   is-corrected h =
       record {
         correctable = record { fits = fits; semi-octets = semi };
-        found = taken-off-in .found (omega (arith, same));
-        only = taken-off-in .only (omega (arith, same));
-        counted = taken-off-in .counted (omega (arith, same));
+        found = corrected-in .found (omega (arith, same));
+        only = corrected-in .only (omega (arith, same));
+        counted = corrected-in .counted (omega (arith, same));
+        bits-counted = corrected-in .bits-counted (omega (arith, same));
       }
 
 -- ---- correcting many words
 
-module _ (mode : ℕ) (words counts : List ℕ) where
+module _ (mode : ℕ) (words counts bits : List ℕ) where
   abbrev n : ℕ
   n = length counts
 
@@ -83,18 +87,24 @@ module _ (mode : ℕ) (words counts : List ℕ) where
   abbrev over : ℕ
   over = length words % n
 
-  none-corrected : (Batch mode words counts → ⊥) → NoneCorrected mode words counts words counts
-  none-corrected h = record { unfit = h; words-kept = refl; counts-kept = refl }
+  abbrev AsLent : Type 0
+  AsLent = NoneCorrected mode words counts bits words counts bits
 
-  pub none-asked : n ≡ 0 → NoneCorrected mode words counts words counts
+  none-corrected : (Batch mode words counts bits → ⊥) → AsLent
+  none-corrected h = record { unfit = h; words-kept = refl; counts-kept = refl; bits-kept = refl }
+
+  pub none-asked : n ≡ 0 → AsLent
   none-asked e = none-corrected (λ b. omega (arith, b .some))
 
-  pub none-elements : (SemiOctets words → ⊥) → NoneCorrected mode words counts words counts
+  pub none-both : (length bits ≡ n → ⊥) → AsLent
+  none-both d = none-corrected (λ b. d (b .both))
+
+  pub none-elements : (SemiOctets words → ⊥) → AsLent
   none-elements not-semi = none-corrected (λ b. not-semi (b .semi-octets))
 
   module _ (some : 1 ≤ n) where
     -- the last word is one of the shorter
-    pub none-fitting : (Fits mode long → ⊥) → NoneCorrected mode words counts words counts
+    pub none-fitting : (Fits mode long → ⊥) → AsLent
     none-fitting no-fit =
         none-corrected
         (λ b.
@@ -103,7 +113,7 @@ module _ (mode : ℕ) (words counts : List ℕ) where
         (b .fits (n - 1) (omega arith))))
 
     -- the first word is one of the longer, where there are any
-    pub none-fitting-longer : ((0 < over → Fits mode (long + 1)) → ⊥) → NoneCorrected mode words counts words counts
+    pub none-fitting-longer : ((0 < over → Fits mode (long + 1)) → ⊥) → AsLent
     none-fitting-longer no-fit =
         none-corrected
         (λ b. no-fit (λ h. subst (λ (t : Bool). Fits mode (cond t (long + 1) long)) (lt-ltb 0 over h) (b .fits 0 some)))
@@ -119,15 +129,16 @@ module _ (mode : ℕ) (words counts : List ℕ) where
     pub dealt-out : Fits mode long → (0 < over → Fits mode (long + 1)) → Dealt (length words) n long over
     dealt-out f g = record { some = some; quotient = refl; rest = refl; short = λ i h. fits-all f g i h .most }
 
-    pub all-corrected : (words′ counts′ : List ℕ) → Fits mode long → (0 < over → Fits mode (long + 1)) → SemiOctets words
-        → length words′ ≡ length words → length counts′ ≡ length counts → EachCorrected (mode - 1 + 1) words words′ counts′
-        → AllCorrected mode words counts words′ counts′
-    all-corrected words′ counts′ f g semi as-long as-many each =
+    pub all-corrected : (words′ counts′ bits′ : List ℕ) → length bits ≡ n → Fits mode long → (0 < over → Fits mode (long + 1))
+        → SemiOctets words → length words′ ≡ length words → length counts′ ≡ length counts → length bits′ ≡ length bits
+        → EachCorrected (mode - 1 + 1) words words′ counts′ bits′ → AllCorrected mode words counts bits words′ counts′ bits′
+    all-corrected words′ counts′ bits′ both f g semi as-long as-many as-many-bits each =
         record {
-          batch = record { some = some; fits = fits-all f g; semi-octets = semi };
+          batch = record { some = some; both = both; fits = fits-all f g; semi-octets = semi };
           as-many = as-many;
+          as-many-bits = as-many-bits;
           as-long = as-long;
-          each = subst (λ (m : ℕ). EachCorrected m words words′ counts′) same-mode each;
+          each = subst (λ (m : ℕ). EachCorrected m words words′ counts′ bits′) same-mode each;
         }
       where
         same-mode : mode - 1 + 1 ≡ mode

@@ -1,12 +1,12 @@
 // One Reed-Solomon code word of Annex A over the field of 16 (crate `gf16`): its check semi-octets, and its correction.
 // Promised, for every word and mode: `make` leaves the only valid word over the data; `correct` leaves the only valid word of the word's
-// own length within m - 1 places, with the count of places, or says that there is none and leaves the word as it was lent; `correct_each`
+// own length within m - 1 places, with the counts of places and of bits, or says that there is none and leaves the word as it was lent; `correct_each`
 // does so for many words; `with_data` sums up, with the table of `check_rows`, the check semi-octets of a word whose data come one by one.
 // What is out of range gets an answer of its own. specs/ of `code_word_laws` says what is right, and its proofs/ has the distance argument,
 // once for d.
 ghost use mathlib.Core.Path.{_≡_};
 ghost use Rattle.code_word_laws.specs.Checks.{IsCheckRows, withData};
-ghost use Rattle.code_word_answers.specs.Answers.{madeNumber, correctedNumber, correctedCount, answersNumber};
+ghost use Rattle.code_word_answers.specs.Answers.{madeNumber, correctedNumber, correctedCount, correctedBits, answersNumber};
 ghost use Rattle.code_word.specs.Make.{Makes};
 ghost use Rattle.code_word.specs.Correct.{Corrects, CorrectsEach};
 pub use code_word_answers::Answers;
@@ -49,7 +49,7 @@ pub fn with_data(rows: &[u32; 208], k: usize, c: u8, r: u32) -> u32
 
 // Corrects a word of semi-octets to the only valid one of its length within m - 1 places.
 pub fn correct(word: &mut [u8], mode: u32) -> Correction
-    ensures { λ r. ⌜ Corrects mode (now (word .entry)) (now (word .exit)) (correctedNumber r) (correctedCount r) ⌝ }
+    ensures { λ r. ⌜ Corrects mode (now (word .entry)) (now (word .exit)) (correctedNumber r) (correctedCount r) (correctedBits r) ⌝ }
 {
     if !code_word_settings::fits(mode, word.len()) {
         return Correction::Unsuitable;
@@ -59,20 +59,23 @@ pub fn correct(word: &mut [u8], mode: u32) -> Correction
     }
     let most = (mode - 1) as u8;
     let t = code_word_locator::table();
-    let count = code_word_corrector::correct_word(&t, word, most);
-    if most < count {
+    let found = code_word_corrector::correct_word(&t, word, most);
+    if most < found.count {
         return Correction::None;
     }
-    Correction::Corrected(count)
+    Correction::Corrected(found.count, found.bits)
 }
 
-// Corrects as many words as there are counts: they stand one after the other, as even in length as can be, the longer first.
-// The table is made once for all of them.
-pub fn correct_each(words: &mut [u8], mode: u32, counts: &mut [u8]) -> Answers
-    ensures { λ r. ⌜ CorrectsEach mode (now (words .entry)) (now (counts .entry)) (now (words .exit)) (now (counts .exit))
-        (answersNumber r) ⌝ }
+// Corrects as many words as there are counts, with the semi-octets in one buffer and the bits in another: the words stand one after the
+// other, as even in length as can be, the longer first. The table is made once for all of them.
+pub fn correct_each(words: &mut [u8], mode: u32, counts: &mut [u8], bits: &mut [u8]) -> Answers
+    ensures { λ r. ⌜ CorrectsEach mode (now (words .entry)) (now (counts .entry)) (now (bits .entry)) (now (words .exit))
+        (now (counts .exit)) (now (bits .exit)) (answersNumber r) ⌝ }
 {
     if counts.len() == 0 {
+        return Answers::Unsuitable;
+    }
+    if bits.len() != counts.len() {
         return Answers::Unsuitable;
     }
     let long = words.len() / counts.len();
@@ -88,6 +91,6 @@ pub fn correct_each(words: &mut [u8], mode: u32, counts: &mut [u8]) -> Answers
     }
     let most = (mode - 1) as u8;
     let t = code_word_locator::table();
-    code_word_corrector::correct_words(&t, words, long, over, most, counts);
+    code_word_corrector::correct_words(&t, words, long, over, most, counts, bits);
     Answers::Given
 }

@@ -14,15 +14,21 @@ madeNumber making.Unsuitable = 1
 
 -- 0: corrected; 1: a setting, a length or an element is out of range; 3: no valid word of that length within m - 1
 abbrev pub correctedNumber : Correction → ℕ
-correctedNumber (correction.Corrected n) = 0
+correctedNumber (correction.Corrected n b) = 0
 correctedNumber correction.None = 3
 correctedNumber correction.Unsuitable = 1
 
 -- the count of changed semi-octets; 0 where nothing was corrected
 abbrev pub correctedCount : Correction → ℕ
-correctedCount (correction.Corrected n) = n
+correctedCount (correction.Corrected n b) = n
 correctedCount correction.None = 0
 correctedCount correction.Unsuitable = 0
+
+-- .. and of changed bits
+abbrev pub correctedBits : Correction → ℕ
+correctedBits (correction.Corrected n b) = b
+correctedBits correction.None = 0
+correctedBits correction.Unsuitable = 0
 
 -- 0: each word has its answer; 1: a setting, a length or an element is out of range
 abbrev pub answersNumber : Answers → ℕ

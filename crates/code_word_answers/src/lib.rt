@@ -1,7 +1,7 @@
-// What making and correcting words answer, and document 01's number and the count of each answer (specs/Answers.antt).
+// What making and correcting words answer, and document 01's number and the counts of each answer (specs/Answers.antt).
 // Inner: `code_word` stands over it and hands the answers on to callers. It asks nothing.
 ghost use mathlib.Core.Path.{_≡_};
-ghost use Rattle.code_word_answers.specs.Answers.{madeNumber, correctedNumber, correctedCount, answersNumber};
+ghost use Rattle.code_word_answers.specs.Answers.{madeNumber, correctedNumber, correctedCount, correctedBits, answersNumber};
 
 // Whether a word was made.
 pub enum Making {
@@ -21,9 +21,9 @@ impl Making {
     }
 }
 
-// What correcting a word found: the count of changed semi-octets, or no valid word near enough.
+// What correcting a word found: the counts of changed semi-octets and of changed bits, or no valid word near enough.
 pub enum Correction {
-    Corrected(u8),
+    Corrected(u8, u8),
     None,
     Unsuitable,
 }
@@ -34,7 +34,7 @@ impl Correction {
         ensures { λ r. ⌜ r ≡ correctedNumber self ⌝ }
     {
         match self {
-            Correction::Corrected(_) => 0,
+            Correction::Corrected(_, _) => 0,
             Correction::None => 3,
             Correction::Unsuitable => 1,
         }
@@ -45,7 +45,18 @@ impl Correction {
         ensures { λ r. ⌜ r ≡ correctedCount self ⌝ }
     {
         match self {
-            Correction::Corrected(n) => n,
+            Correction::Corrected(n, _) => n,
+            Correction::None => 0,
+            Correction::Unsuitable => 0,
+        }
+    }
+
+    // The count of changed bits, 0 where nothing was corrected.
+    pub fn bits(self) -> u8
+        ensures { λ r. ⌜ r ≡ correctedBits self ⌝ }
+    {
+        match self {
+            Correction::Corrected(_, b) => b,
             Correction::None => 0,
             Correction::Unsuitable => 0,
         }

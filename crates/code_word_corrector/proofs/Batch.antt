@@ -54,20 +54,23 @@ abbrev pub piece : ℕ → ℕ → ℕ → List ℕ → List ℕ
 piece many n i words = take (lengthAt many n i) (drop (startAt many n i) words)
 
 -- the first i words are done, and the rest is as it was
-pub record MendedTo (mode many n : ℕ) (old : List ℕ) (i at : ℕ) (new counts : List ℕ) : Type 0 where
+pub record MendedTo (mode many n : ℕ) (old : List ℕ) (i at : ℕ) (new counts bits : List ℕ) : Type 0 where
   pub place : at ≡ startAt many n i
   pub as-long : length new ≡ many
   pub as-many : length counts ≡ n
+  pub as-many-bits : length bits ≡ n
   pub behind : drop at new ≡ drop at old
-  pub each : (j : ℕ) → j < i → WordCorrected mode (piece many n j old) (piece many n j new) (getD counts j 0)
+  pub each : (j : ℕ) → j < i → WordCorrected mode (piece many n j old) (piece many n j new) (getD counts j 0) (getD bits j 0)
 
-pub batch-first : (mode : ℕ) (old counts : List ℕ) → MendedTo mode (length old) (length counts) old 0 0 old counts
-batch-first mode old counts = record { place = refl; as-long = refl; as-many = refl; behind = refl; each = λ j h. absurd (omega arith) }
+pub batch-first : (mode : ℕ) (old counts bits : List ℕ) → length bits ≡ length counts
+    → MendedTo mode (length old) (length counts) old 0 0 old counts bits
+batch-first mode old counts bits e =
+    record { place = refl; as-long = refl; as-many = refl; as-many-bits = e; behind = refl; each = λ j h. absurd (omega arith) }
 
-module _ (mode many n : ℕ) (old : List ℕ) (i at : ℕ) (new counts : List ℕ) (k : MendedTo mode many n old i at new counts) where
-  pub batch-last : many ≡ length old → n ≤ i → EachCorrected mode old new counts
+module _ (mode many n : ℕ) (old : List ℕ) (i at : ℕ) (new counts bits : List ℕ) (k : MendedTo mode many n old i at new counts bits) where
+  pub batch-last : many ≡ length old → n ≤ i → EachCorrected mode old new counts bits
   batch-last m h j b =
-      subst₂ (λ (v w : List ℕ). WordCorrected mode v w (getD counts j 0))
+      subst₂ (λ (v w : List ℕ). WordCorrected mode v w (getD counts j 0) (getD bits j 0))
       (ap₂ (λ (x y : ℕ). piece x y j old) m (sym (k .as-many)))
       (ap₂ (λ (x y : ℕ). piece x y j new) (sym (k .as-long)) (sym (k .as-many)))
       (k .each j (omega (arith, k .as-many)))
@@ -86,7 +89,8 @@ module _ (mode many n : ℕ) (old : List ℕ) (i at : ℕ) (new counts : List �
     pub batch-semi : SemiOctets old → SemiOctets (take long (drop at new))
     batch-semi s = rw (k .behind) (take-semi-octets long (drop at old) (drop-semi-octets at old s))
 
-    module _ (last : List ℕ) (r : ℕ) (long-last : length last ≡ long) (takenOff : WordCorrected mode (take long (drop at new)) last r) where
+    module _ (last : List ℕ) (r b : ℕ) (long-last : length last ≡ long)
+        (corrected : WordCorrected mode (take long (drop at new)) last r b) where
       abbrev rest : List ℕ
       rest = drop long (drop at new)
 
@@ -112,16 +116,17 @@ module _ (mode many n : ℕ) (old : List ℕ) (i at : ℕ) (new counts : List �
           ∙ ap (λ (l : List ℕ). take long l) rear
           ∙ take-at last rest long long-last
 
-      each-next : (j : ℕ) → j < suc i → (b : Bool) → eqb j i ≡ b
-          → WordCorrected mode (piece many n j old) (piece many n j after) (getD (set counts i r) j 0)
+      each-next : (j : ℕ) → j < suc i → (t : Bool) → eqb j i ≡ t
+          → WordCorrected mode (piece many n j old) (piece many n j after) (getD (set counts i r) j 0) (getD (set bits i b) j 0)
       each-next j h true e =
           let s = eqb-true j i e in
-          rw (s, now-done, getD-set-same counts i r 0 (omega (arith, k .as-many))) (rw batch-word at takenOff)
+          rw (s, now-done, getD-set-same counts i r 0 (omega (arith, k .as-many)), getD-set-same bits i b 0 (omega (arith, k .as-many-bits)))
+          (rw batch-word at corrected)
       each-next j h false e =
           let d : (j ≡ i → ⊥) = eqb-false j i e in
-          rw (done j (omega arith), getD-set-other counts i j r 0 d) (k .each j (omega arith))
+          rw (done j (omega arith), getD-set-other counts i j r 0 d, getD-set-other bits i j b 0 d) (k .each j (omega arith))
 
-      pub batch-next : MendedTo mode many n old (suc i) (at + long) after (set counts i r)
+      pub batch-next : MendedTo mode many n old (suc i) (at + long) after (set counts i r) (set bits i b)
       batch-next =
           record {
             place = ap₂ (λ (x y : ℕ). x + y) (k .place) is;
@@ -130,6 +135,7 @@ module _ (mode many n : ℕ) (old : List ℕ) (i at : ℕ) (new counts : List �
                 ∙ ap₂ (λ (x y : ℕ). x + y) (length-take-le at new (omega (arith, batch-inside))) (length-append last rest)
                 ∙ omega (arith, long-last, length-drop long (drop at new), length-drop at new, k .as-long, batch-inside);
             as-many = length-set counts i r ∙ k .as-many;
+            as-many-bits = length-set bits i b ∙ k .as-many-bits;
             behind =
                 sym (drop-drop long at after)
                 ∙ ap (λ (l : List ℕ). drop long l) rear

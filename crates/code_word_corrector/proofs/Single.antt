@@ -2,25 +2,41 @@
 -- it is valid.
 -- Assumes nothing.
 use mathlib.Core.Path.{_≡_, refl, sym, ap, ap₂, _∙_}
-use mathlib.Core.Bool.{true, false, false≢true}
 use mathlib.Core.Logic.{_≢_}
 use mathlib.Core.List.{List, [], _∷_}
-use Prim.Native.Nat.{ℕ, zero, suc, _+_, _≤_, _<_}
+use Prim.Native.Nat.{ℕ, zero, suc, _+_, _/_, _≤_, _<_}
 use native.Mathlib.Omega.{arith}
 use native.Mathlib.Nat.{mod-eq-of-lt}
 use lib.Bits.{bitXor}
 use lib.ListN.{length, getD, set, length-set}
-use borrow.Author.Tests.{eq-eqb}
+use borrow.Author.Tests.{ne-eqb}
 use Rattle.gf16.specs.Field.{sum, product, power}
 use Rattle.gf16.proofs.Laws.{ring, sum-lt, product-one, power-power}
 use Rattle.code_word_laws.specs.Polynomial.{value}
-use Rattle.code_word_laws.specs.Word.{SemiOctets, Roots, apart, unequal}
+use Rattle.code_word_laws.specs.Word.{
+  SemiOctets,
+  Roots,
+  unequal,
+  semiOctetChanged,
+  ones,
+  bitsChanged,
+  changesBy,
+  apart,
+  bitsApart,
+}
 use Rattle.code_word_laws.specs.Correct.{WordCorrected}
-use Rattle.code_word_laws.specs.Corrector.{Row, Syndromes, Clear, Tried}
+use Rattle.code_word_laws.specs.Corrector.{Row, Syndromes, Clear, bothOf, Tried}
 use Rattle.code_word_laws.proofs.Packed.{nibble-xor}
-use Rattle.code_word_laws.proofs.Turns.{changed}
+use Rattle.code_word_laws.proofs.Changes.{
+  changes-self,
+  semi-octet-same,
+  bits-same,
+  ones-some,
+  error-changed,
+  error-bits,
+  both-bits,
+}
 use Rattle.code_word_laws.proofs.Correcting.{near-by, found-is}
-use Rattle.code_word_laws.proofs.Distance.{apart-self}
 
 -- v added at place k
 abbrev changed-at : List ℕ → ℕ → ℕ → List ℕ
@@ -45,24 +61,34 @@ semi-octets-changed [] k v h l s = absurd (omega arith)
 semi-octets-changed (c ∷ cs) zero v h l s = (sum-lt c v (s .0) l, s .1)
 semi-octets-changed (c ∷ cs) (suc k) v h l s = (s .0, semi-octets-changed cs k v (omega arith) l (s .1))
 
-apart-changed : (w : List ℕ) (k v : ℕ) → k < length w → v < 16 → v ≢ 0 → apart w (changed-at w k v) ≡ 1
-apart-changed [] k v h l n = absurd (omega arith)
-apart-changed (c ∷ cs) zero v h l n = let e = changed c v l in let r = apart-self cs in omega arith
-apart-changed (c ∷ cs) (suc k) v h l n =
-    ap₂ (λ (a b : ℕ). a + b) (ap unequal (eq-eqb c c refl)) (apart-changed cs k v (omega arith) l n)
+-- one place changed: what f counts there
+changes-changed : (f : ℕ → ℕ → ℕ) → ((x : ℕ) → f x x ≡ 0) → (w : List ℕ) (k v : ℕ) → k < length w
+    → changesBy f w (changed-at w k v) ≡ f (getD w k 0) (sum (getD w k 0) v)
+changes-changed f z [] k v h = absurd (omega arith)
+changes-changed f z (c ∷ cs) zero v h = let r = changes-self f z cs in omega arith
+changes-changed f z (c ∷ cs) (suc k) v h =
+    let r = changes-changed f z cs k v (omega arith) in
+    omega (arith, z c)
+
+apart-changed : (w : List ℕ) (k v : ℕ) → k < length w → v ≢ 0 → apart w (changed-at w k v) ≡ 1
+apart-changed w k v h n =
+    changes-changed semiOctetChanged semi-octet-same w k v h ∙ error-changed (getD w k 0) v ∙ ap unequal (ne-eqb v 0 n)
+
+bits-apart-changed : (w : List ℕ) (k v : ℕ) → k < length w → bitsApart w (changed-at w k v) ≡ ones v
+bits-apart-changed w k v h = changes-changed bitsChanged bits-same w k v h ∙ error-bits (getD w k 0) v
 
 -- the word is corrected where the rest of its syndromes is clear
 pub taken-off-one : (t : ℕ) (old : List ℕ) (s k v r : ℕ) → 1 ≤ t → t ≤ 3 → length old ≤ 15 → SemiOctets old → Syndromes old s
     → k < length old → v < 16 → v ≢ 0
-    → Row k v r → Clear (t + t) (bitXor s r) → WordCorrected (t + 1) old (set old k (bitXor (getD old k 0) v)) 1
+    → Row k v r → Clear (t + t) (bitXor s r) → WordCorrected (t + 1) old (set old k (bitXor (getD old k 0) v)) 1 (ones v)
 unfolding sum
 taken-off-one t old s k v r from to short semi syndromes h l n row clear =
-    found-is t old to short semi (changed-at old k v) 1 (sym one)
+    found-is t old to short semi (changed-at old k v) 1 (ones v) (sym one) (sym (bits-apart-changed old k v h))
     (near-by t old to short semi (changed-at old k v) (semi-octets-changed old k v h l semi) (length-set old k (sum (getD old k 0) v)) roots
     (omega (arith, one)))
   where
     one : apart old (changed-at old k v) ≡ 1
-    one = apart-changed old k v h l n
+    one = apart-changed old k v h n
 
     roots : Roots (t + t + 1) (changed-at old k v)
     roots j p q =
@@ -71,8 +97,13 @@ taken-off-one t old s k v r from to short semi syndromes h l n row clear =
         ∙ sym (nibble-xor j s r)
         ∙ clear j p (omega arith)
 
-pub tried-none : (mode : ℕ) (old : List ℕ) → Tried mode old old false
-tried-none mode old = record { one = λ e. absurd (false≢true e); kept = λ e. refl }
+pub tried-none : (mode : ℕ) (old : List ℕ) → Tried mode old old 0
+tried-none mode old = record { one = λ n. absurd (n refl); kept = λ e. refl }
 
-pub tried-one : (mode : ℕ) (old new : List ℕ) → WordCorrected mode old new 1 → Tried mode old new true
-tried-one mode old new m = record { one = λ e. m; kept = λ e. absurd (false≢true (sym e)) }
+-- an error has ones
+pub tried-one : (mode : ℕ) (old new : List ℕ) (v b : ℕ) → v < 16 → v ≢ 0 → b ≡ bothOf v → WordCorrected mode old new 1 (ones v)
+    → Tried mode old new (b / 16)
+tried-one mode old new v b l n e m =
+    let is : b / 16 ≡ ones v = ap (λ (x : ℕ). x / 16) e ∙ both-bits v in
+    let some = ones-some v l n in
+    record { one = λ z. rw is m; kept = λ z. absurd (omega arith) }

@@ -8,10 +8,10 @@ ghost use Prim.Native.Nat.{_+_, _^_, _≤_, _<_};
 ghost use lib.Dec.{ltb};
 ghost use lib.ListN.{length};
 ghost use Rattle.laws.specs.Decides.{Decides};
-ghost use Rattle.code_word_laws.specs.Word.{SemiOctets, apart};
+ghost use Rattle.code_word_laws.specs.Word.{SemiOctets};
 ghost use Rattle.code_word_laws.specs.Correct.{WordCorrected, EachCorrected};
 ghost use Rattle.code_word_laws.specs.Corrector.{TableFor, WordFor, Started, Syndromes, Transformed, ErrorWord, Acceptable, Dealt, Tried};
-ghost use Rattle.code_word_laws.specs.Corrector.{takenOff};
+ghost use Rattle.code_word_laws.specs.Corrector.{bothOf, IsTakenOff};
 use code_word_locator::clear;
 use code_word_locator::find_locator;
 use code_word_locator::inverted;
@@ -20,6 +20,7 @@ use code_word_locator::row;
 use code_word_locator::syndromes;
 use code_word_locator::times;
 use code_word_locator::tripled;
+use widening::wide;
 
 // The error values, packed: fifteen sums by the locator, each transformed back as it is made.
 fn errors(t: &[u32; 512], r1: u8, r2: u8, r3: u8, s1: u8, s2: u8, u: u8) -> u64
@@ -53,23 +54,37 @@ fn error_word(t: &[u32; 512], s: u64, most: u8) -> u64
     errors(t, r.0, r.1, r.2, s1, s2, r.3)
 }
 
-// Takes the errors off, and counts them.
-fn take_off(word: &mut [u8], e: u64) -> u8
+// What an error counts, by its value: 1 as a changed semi-octet, and 16 for each of its ones.
+const COUNTS: [u16; 16] = [
+    0, 17, 17, 33, 17, 33, 33, 49, 17, 33, 33, 49, 33, 49, 49, 65,
+];
+
+// Both counts of an error in one number, so that one loop and one sum count semi-octets and bits.
+fn both_counts(v: u8) -> u16
+    requires { ⌜ v < 16 ⌝ }
+    ensures { λ r. ⌜ r ≡ bothOf v ⌝ }
+    ensures { λ r. ⌜ r ≤ 65 ⌝ }
+{
+    let at = wide(v);
+    COUNTS[at]
+}
+
+// Takes the errors off, and counts them: the changed semi-octets, and 16 times the changed bits.
+fn take_off(word: &mut [u8], e: u64) -> u16
     requires { ⌜ length (now word) ≤ 15 ⌝ }
-    ensures { λ r. ⌜ now (word .exit) ≡ takenOff (now (word .entry)) e ⌝ }
-    ensures { λ r. ⌜ r ≡ apart (now (word .entry)) (now (word .exit)) ⌝ }
+    ensures { λ r. ⌜ IsTakenOff (now (word .entry)) e (now (word .exit)) r ⌝ }
 {
     let mut rest = e;
-    let mut count: u8 = 0;
+    let mut both: u16 = 0;
     let mut i = 0;
     while i < word.len() {
         let digit = (rest % 16) as u8;
         word[i] = word[i] ^ digit;
-        count = count + (digit + 15) / 16;
+        both = both + both_counts(digit);
         rest = rest / 16;
         i += 1;
     }
-    count
+    both
 }
 
 // Whether the word, with so many changes, is valid and near enough.
@@ -83,8 +98,9 @@ fn accepted(t: &[u32; 512], word: &[u8], most: u8, count: u8) -> bool
     clear(syndromes(t, word), most)
 }
 
-// Takes one error off, where the syndromes are those of one: its value times its place is s1, and times its place again s2.
-fn correct_one(t: &[u32; 512], word: &mut [u8], s: u64, most: u8) -> bool
+// Takes one error off, where the syndromes are those of one: its value times its place is s1, and times its place again s2. The answer is
+// its bits, 0 where it is not one error.
+fn correct_one(t: &[u32; 512], word: &mut [u8], s: u64, most: u8) -> u8
     requires { ⌜ WordFor (now t) (now word) most ⌝ }
     requires { ⌜ Syndromes (now word) s ⌝ }
     ensures { λ r. ⌜ Tried (most + 1) (now (word .entry)) (now (word .exit)) r ⌝ }
@@ -93,39 +109,53 @@ fn correct_one(t: &[u32; 512], word: &mut [u8], s: u64, most: u8) -> bool
     let s2 = (s / 16 / 16 % 16) as u8;
     let v = times(t, inverted(s2), times(t, s1, s1));
     if v == 0 {
-        return false;
+        return 0;
     }
     let k = logarithm(times(t, inverted(s1), s2));
     if word.len() <= k {
-        return false;
+        return 0;
     }
     if clear(s ^ row(t, k, v), most) {
         word[k] = word[k] ^ v;
-        return true;
+        return (both_counts(v) / 16) as u8;
     }
-    false
+    0
 }
 
-// Corrects one word with a lent table: the count of changed semi-octets, or t + 1 where no valid word is near, and then the word is as it
-// was lent.
-pub fn correct_word(t: &[u32; 512], word: &mut [u8], most: u8) -> u8
+// The changes of a word: its changed semi-octets, and its changed bits.
+pub struct Changes {
+    pub count: u8,
+    pub bits: u8,
+}
+
+// Corrects one word with a lent table: its changes, or t + 1 semi-octets and no bits where no valid word is near, and then the word is as
+// it was lent.
+pub fn correct_word(t: &[u32; 512], word: &mut [u8], most: u8) -> Changes
     requires { ⌜ WordFor (now t) (now word) most ⌝ }
-    ensures { λ r. ⌜ WordCorrected (most + 1) (now (word .entry)) (now (word .exit)) r ⌝ }
+    ensures { λ r. ⌜ WordCorrected (most + 1) (now (word .entry)) (now (word .exit)) (r .count) (r .bits) ⌝ }
 {
     let s = syndromes(t, word);
     if clear(s, most) {
-        return 0;
+        return Changes { count: 0, bits: 0 };
     }
-    if correct_one(t, word, s, most) {
-        return 1;
+    let bits = correct_one(t, word, s, most);
+    if bits != 0 {
+        return Changes { count: 1, bits };
     }
     let e = error_word(t, s, most);
-    let count = take_off(word, e);
+    let both = take_off(word, e);
+    let count = (both % 16) as u8;
     if accepted(t, word, most, count) {
-        return count;
+        return Changes {
+            count,
+            bits: (both / 16) as u8,
+        };
     }
     take_off(word, e);
-    most + 1
+    Changes {
+        count: most + 1,
+        bits: 0,
+    }
 }
 
 // The length of word i: one more for the words that come first.
@@ -139,7 +169,7 @@ fn dealt(long: usize, over: usize, i: usize) -> usize
     long
 }
 
-// Corrects each word with a lent table, and leaves its count, or t + 1 where it has none.
+// Corrects each word with a lent table, and leaves its counts, or t + 1 and 0 where it has none.
 pub fn correct_words(
     t: &[u32; 512],
     words: &mut [u8],
@@ -147,17 +177,21 @@ pub fn correct_words(
     over: usize,
     most: u8,
     counts: &mut [u8],
+    bits: &mut [u8],
 )
     requires { ⌜ TableFor (now t) most ⌝ }
     requires { ⌜ Dealt (length (now words)) (length (now counts)) long over ⌝ }
     requires { ⌜ SemiOctets (now words) ⌝ }
-    ensures { λ r. ⌜ EachCorrected (most + 1) (now (words .entry)) (now (words .exit)) (now (counts .exit)) ⌝ }
+    requires { ⌜ length (now bits) ≡ length (now counts) ⌝ }
+    ensures { λ r. ⌜ EachCorrected (most + 1) (now (words .entry)) (now (words .exit)) (now (counts .exit)) (now (bits .exit)) ⌝ }
 {
     let mut at = 0;
     let mut i = 0;
     while i < counts.len() {
         let end = at + dealt(long, over, i);
-        counts[i] = correct_word(t, &mut words[at..end], most);
+        let found = correct_word(t, &mut words[at..end], most);
+        counts[i] = found.count;
+        bits[i] = found.bits;
         at = end;
         i += 1;
     }

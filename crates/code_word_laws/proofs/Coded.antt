@@ -13,7 +13,7 @@ use Rattle.gf16.proofs.Laws.{sum-undone, sum-zero, zero-sum}
 use Rattle.code_word_laws.specs.Polynomial.{multiplied, rooted, generator}
 use Rattle.code_word_laws.specs.Word.{SemiOctets, apart}
 use Rattle.code_word_laws.specs.Make.{remainder, coded, CodeWord}
-use Rattle.code_word_laws.proofs.Distance.{unequal-le, apart-self}
+use Rattle.code_word_laws.proofs.Changes.{unequal-le, apart-self}
 use Rattle.code_word_laws.proofs.Division.{
   unique,
   divided,

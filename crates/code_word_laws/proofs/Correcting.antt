@@ -12,7 +12,7 @@ use Rattle.laws.specs.Decides.{Decides}
 use Rattle.gf16.specs.Field.{sum, power}
 use Rattle.gf16.proofs.Laws.{sum-lt, sum-assoc, sum-self, sum-zero, cancel}
 use Rattle.code_word_laws.specs.Polynomial.{value, added}
-use Rattle.code_word_laws.specs.Word.{SemiOctets, Roots, apart, distance}
+use Rattle.code_word_laws.specs.Word.{SemiOctets, Roots, apart, bitsApart, distance}
 use Rattle.code_word_laws.specs.Correct.{Near, WordCorrected}
 use Rattle.code_word_laws.specs.Packed.{nibble}
 use Rattle.code_word_laws.specs.Corrector.{
@@ -28,6 +28,7 @@ use Rattle.code_word_laws.specs.Corrector.{
   ErrorWord,
   takenOff,
 }
+use Rattle.code_word_laws.proofs.Changes.{apart-self, bits-apart-self}
 use Rattle.code_word_laws.proofs.Distance.{
   support,
   support-rising,
@@ -36,7 +37,6 @@ use Rattle.code_word_laws.proofs.Distance.{
   added-semi-octets,
   value-added,
   value-total,
-  apart-self,
 }
 use Rattle.code_word_laws.proofs.Division.{valid-roots, roots-valid, nearest}
 use Rattle.code_word_laws.proofs.Transform.{undone}
@@ -155,36 +155,41 @@ module _ (t : ℕ) (old : List ℕ) (to : t ≤ 3) (short : length old ≤ 15) (
         near = omega arith;
       }
 
-  pub found-is : (w : List ℕ) (n : ℕ) → n ≡ apart old w → Near (t + 1) old w → WordCorrected (t + 1) old w n
-  found-is w n e near =
+  pub found-is : (w : List ℕ) (n b : ℕ) → n ≡ apart old w → b ≡ bitsApart old w → Near (t + 1) old w → WordCorrected (t + 1) old w n b
+  found-is w n b e f near =
       record {
-        found = λ b. near;
-        only = λ b v m. nearest (t + 1) old v w short m near;
-        counted = λ b. e;
-        none = λ b. absurd (omega (arith, near .near));
-        kept = λ b. absurd (omega (arith, near .near));
-        told = λ b. absurd (omega (arith, near .near));
+        found = λ l. near;
+        only = λ l v m. nearest (t + 1) old v w short m near;
+        counted = λ l. e;
+        bits-counted = λ l. f;
+        none = λ l. absurd (omega (arith, near .near));
+        kept = λ l. absurd (omega (arith, near .near));
+        told = λ l. absurd (omega (arith, near .near));
+        no-bits = λ l. absurd (omega (arith, near .near));
       }
 
   -- a valid word has no change
-  pub taken-off-clean : (s : ℕ) → Syndromes old s → Clear (t + t) s → WordCorrected (t + 1) old old 0
+  pub taken-off-clean : (s : ℕ) → Syndromes old s → Clear (t + t) s → WordCorrected (t + 1) old old 0 0
   taken-off-clean s syndromes clear =
-      found-is old 0 (sym (apart-self old)) (near-by old semi refl (clear-roots t old s to syndromes clear) (omega (arith, apart-self old)))
+      found-is old 0 0 (sym (apart-self old)) (sym (bits-apart-self old))
+      (near-by old semi refl (clear-roots t old s to syndromes clear) (omega (arith, apart-self old)))
 
   module _ (e n : ℕ) (counted : n ≡ apart old (takenOff old e)) where
-    pub taken-off-accepted : n ≤ t → Roots (t + t + 1) (takenOff old e) → WordCorrected (t + 1) old (takenOff old e) n
-    taken-off-accepted few roots =
-        found-is (takenOff old e) n counted (near-by (takenOff old e) (taken-off-semi-octets old e semi) (taken-off-length old e) roots
-        (omega arith))
+    pub taken-off-accepted : (b : ℕ) → b ≡ bitsApart old (takenOff old e) → n ≤ t → Roots (t + t + 1) (takenOff old e)
+        → WordCorrected (t + 1) old (takenOff old e) n b
+    taken-off-accepted b bits few roots =
+        found-is (takenOff old e) n b counted bits
+        (near-by (takenOff old e) (taken-off-semi-octets old e semi) (taken-off-length old e) roots (omega arith))
 
     -- a valid word near it would have been found
     pub taken-off-refused : (s k : ℕ) → k ≡ t + 1 → Syndromes old s → ErrorWord t s e → (n ≤ t → Roots (t + t + 1) (takenOff old e) → ⊥)
-        → WordCorrected (t + 1) old (takenOff (takenOff old e) e) k
+        → WordCorrected (t + 1) old (takenOff (takenOff old e) e) k 0
     taken-off-refused s k is syndromes error-word not =
         record {
           found = λ b. absurd (omega arith);
           only = λ b. absurd (omega arith);
           counted = λ b. absurd (omega arith);
+          bits-counted = λ b. absurd (omega arith);
           none = λ b w near.
               let r : Roots (distance (t + 1)) w = valid-roots (distance (t + 1)) w (near .semi-octets) (near .valid) in
               let e′ : takenOff old e ≡ w =
@@ -194,18 +199,19 @@ module _ (t : ℕ) (old : List ℕ) (to : t ≤ 3) (short : length old ≤ 15) (
               (λ j p q. ap (λ (l : List ℕ). value l (power 2 j)) e′ ∙ r j p (omega arith));
           kept = λ b. taken-off-twice old e;
           told = λ b. is;
+          no-bits = λ b. refl;
         }
 
-  pub correct-word-accepted : (e n : ℕ) (new : List ℕ) {r : Bool} → new ≡ takenOff old e → n ≡ apart old new
-      → Decides (Acceptable t n new) r → r ≡ true → WordCorrected (t + 1) old new n
-  correct-word-accepted e n new en counted a taken =
-      rw en (taken-off-accepted e n (rw en at counted) (a .holds taken .few) (rw en at (a .holds taken .roots)))
+  module _ (e n : ℕ) (new : List ℕ) {r : Bool} (en : new ≡ takenOff old e) (counted : n ≡ apart old new)
+      (a : Decides (Acceptable t n new) r) where
+    pub correct-word-accepted : (b : ℕ) → b ≡ bitsApart old new → r ≡ true → WordCorrected (t + 1) old new n b
+    correct-word-accepted b bits taken =
+        rw en (taken-off-accepted e n (rw en at counted) b (rw en at bits) (a .holds taken .few) (rw en at (a .holds taken .roots)))
 
-  -- k is the count that is answered then
-  pub correct-word-refused : (e n s k : ℕ) (new last : List ℕ) {r : Bool} → new ≡ takenOff old e → n ≡ apart old new → last ≡ takenOff new e
-      → k ≡ t + 1
-      → Syndromes old s → ErrorWord t s e → Decides (Acceptable t n new) r → r ≡ false → WordCorrected (t + 1) old last k
-  correct-word-refused e n s k new last en counted el is syndromes error-word a left =
-      let back : last ≡ takenOff (takenOff old e) e = el ∙ ap (λ (l : List ℕ). takenOff l e) en in
-      rw back (taken-off-refused e n (rw en at counted) s k is syndromes error-word
-      (λ few roots. a .fails left (record { few = few; roots = rw en roots })))
+    -- k is the count that is answered then
+    pub correct-word-refused : (s k : ℕ) (last : List ℕ) → last ≡ takenOff new e → k ≡ t + 1 → Syndromes old s → ErrorWord t s e
+        → r ≡ false → WordCorrected (t + 1) old last k 0
+    correct-word-refused s k last el is syndromes error-word left =
+        let back : last ≡ takenOff (takenOff old e) e = el ∙ ap (λ (l : List ℕ). takenOff l e) en in
+        rw back (taken-off-refused e n (rw en at counted) s k is syndromes error-word
+        (λ few roots. a .fails left (record { few = few; roots = rw en roots })))

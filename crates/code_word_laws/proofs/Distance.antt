@@ -27,6 +27,7 @@ use Rattle.gf16.proofs.Laws.{
 }
 use Rattle.code_word_laws.specs.Polynomial.{value, added}
 use Rattle.code_word_laws.specs.Word.{SemiOctets, Roots, apart, unequal}
+use Rattle.code_word_laws.proofs.Changes.{unequal-le}
 use Rattle.code_word_laws.proofs.Places.{place, total, Rising, Zero, vanish}
 
 -- the places from k on at which the coefficients are not 0
@@ -90,10 +91,6 @@ support-rising (zero ∷ cs) k h = lower (suc k) k (support (suc k) cs) (omega a
     lower b c (i ∷ ks) h r = (omega arith, r .1, r .2)
 support-rising (suc c ∷ cs) k h = (omega arith, omega arith, support-rising cs (suc k) (omega arith))
 
-pub unequal-le : (b : Bool) → unequal b ≤ 1
-unequal-le true = omega arith
-unequal-le false = omega arith
-
 differ-at : (x y : ℕ) (n : ℕ) (b : Bool) → eqb x y ≡ b → sum x y ≡ suc n → 1 ≤ unequal b
 differ-at x y n true e d = let z : 0 ≡ suc n = sym (sum-self y) ∙ ap (λ (a : ℕ). sum a y) (sym (eqb-true x y e)) ∙ d in absurd (omega arith)
 differ-at x y n false e d = omega arith
@@ -111,10 +108,6 @@ support-few (x ∷ xs) (y ∷ ys) k l = go (sum x y) refl (support-few xs ys (su
         → length (support k (n ∷ added xs ys)) ≤ unequal (eqb x y) + apart xs ys
     go zero e h = omega arith
     go (suc n) e h = let d = differ-at x y n (eqb x y) refl e in omega arith
-
-pub apart-self : (xs : List ℕ) → apart xs xs ≡ 0
-apart-self [] = refl
-apart-self (x ∷ xs) = let e : eqb x x ≡ true = eq-eqb x x refl in let r = apart-self xs in rw e (omega arith)
 
 -- ---- equal words
 

@@ -31,7 +31,8 @@ use Rattle.code_word_laws.specs.Word.{SemiOctets, Valid, Roots, apart, d
 use Rattle.code_word_laws.specs.Make.{lessened, remainder}
 use Rattle.code_word_laws.specs.Correct.{Near}
 use Rattle.code_word_laws.proofs.Places.{linear}
-use Rattle.code_word_laws.proofs.Distance.{unequal-le, value-lt, unique-roots, triangle, value-added}
+use Rattle.code_word_laws.proofs.Changes.{apart-few}
+use Rattle.code_word_laws.proofs.Distance.{value-lt, unique-roots, triangle, value-added}
 
 -- ---- values
 
@@ -273,11 +274,6 @@ divided n g (c ∷ cs) m s k =
         → sum (getD (0 ∷ multiplied (quotient-by n g cs) g) k 0) (getD (c ∷ remainder n g cs) k 0) ≡ getD (c ∷ cs) k 0
     below zero h = zero-sum c
     below (suc i) h = h i
-
-apart-few : (xs ys : List ℕ) → apart xs ys ≤ length xs
-apart-few [] ys = omega arith
-apart-few (x ∷ xs) [] = omega arith
-apart-few (x ∷ xs) (y ∷ ys) = let r = apart-few xs ys in let u = unequal-le (eqb x y) in omega arith
 
 -- the remainder of a word with the generator's roots has them too
 remainder-roots : (d : ℕ) (w : List ℕ) → SemiOctets w → Roots d w → Roots d (remainder (d - 1) (rooted (d - 1)) w)

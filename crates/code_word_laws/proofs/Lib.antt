@@ -1,6 +1,7 @@
 -- The theory of one code word, and the laws that several crates cite.
 
 -- words and their distance
+pub mod Changes
 pub mod Places
 pub mod Distance
 pub mod Division

@@ -12,12 +12,12 @@ use lib.Bits.{bitXor, xor-lt}
 use lib.Dec.{eqb}
 use lib.ListN.{length, getD, take, drop, set, length-set, take-append-drop, drop-of-length-le}
 use lib.Seq.{append-snoc, drop-cons, drop-set-lt, take-suc, take-suc-set, take-length, length-take-le}
-use borrow.Author.Tests.{eqb-true, eqb-false, eq-eqb, ne-eqb}
+use borrow.Author.Tests.{eqb-true, eqb-false}
 use Rattle.laws.specs.Decides.{Decides}
 use Rattle.gf16.specs.Field.{sum, product, power}
-use Rattle.gf16.proofs.Laws.{sum-self, sum-zero, zero-sum, cancel, product-comm, product-lt, product-by-zero, power-power}
+use Rattle.gf16.proofs.Laws.{sum-zero, zero-sum, product-comm, product-lt, product-by-zero, power-power}
 use Rattle.code_word_laws.specs.Polynomial.{value}
-use Rattle.code_word_laws.specs.Word.{SemiOctets, apart, unequal}
+use Rattle.code_word_laws.specs.Word.{SemiOctets, changesBy}
 use Rattle.code_word_laws.specs.Packed.{nibble}
 use Rattle.code_word_laws.specs.Corrector.{Row, Syndromes, Clear, Recurs, back, Transformed, takenOff, minorTwo, triple}
 use Rattle.code_word_laws.proofs.Division.{semi-octet-at, value-append}
@@ -146,68 +146,56 @@ module _ (r1 r2 r3 s1 s2 u : ℕ) where
 
 -- ---- errors taken off, a semi-octet a turn
 
--- a digit that is not 0 is one change
-pub changed : (w d : ℕ) → d < 16 → unequal (eqb w (sum w d)) ≡ (d + 15) / 16
-changed w zero h = ap unequal (eq-eqb w (sum w 0) (sym (sum-zero w))) ∙ omega arith
-changed w (suc d) h = ap unequal (ne-eqb w (sum w (suc d)) differs) ∙ omega arith
-  where
-    differs : w ≡ sum w (suc d) → ⊥
-    differs e = let z : 0 ≡ suc d = sym (sum-self w) ∙ ap (λ (x : ℕ). sum w x) e ∙ cancel w (suc d) in omega arith
-
--- after i turns: the front is done, the rest is as it was, and what is still to be done gives the whole
-pub record TakenTo (old : List ℕ) (e i rest count : ℕ) (now : List ℕ) : Type 0 where
+-- after i turns: the front is done, the rest is as it was, and what is still to be done gives the whole, in which f counts the changes
+pub record TakenTo (f : ℕ → ℕ → ℕ) (old : List ℕ) (e i rest count : ℕ) (now : List ℕ) : Type 0 where
   pub long : length now ≡ length old
   pub behind : drop i now ≡ drop i old
   pub whole : take i now ++ takenOff (drop i old) rest ≡ takenOff old e
-  pub counted : count + apart (drop i old) (takenOff (drop i old) rest) ≡ apart old (takenOff old e)
-  pub few : count ≤ i
+  pub counted : count + changesBy f (drop i old) (takenOff (drop i old) rest) ≡ changesBy f old (takenOff old e)
 
-pub taken-first : (old : List ℕ) (e : ℕ) → TakenTo old e 0 e 0 old
-taken-first old e = record { long = refl; behind = refl; whole = refl; counted = zero-add (apart old (takenOff old e)); few = omega arith }
+module _ (f : ℕ → ℕ → ℕ) (old : List ℕ) (e : ℕ) where
+  pub taken-first : TakenTo f old e 0 e 0 old
+  taken-first = record { long = refl; behind = refl; whole = refl; counted = zero-add (changesBy f old (takenOff old e)) }
 
-taken-step : (old : List ℕ) (e i rest count : ℕ) (now : List ℕ) (d v : ℕ) → i < length old → d ≡ rest % 16 → v ≡ sum (getD now i 0) d
-    → TakenTo old e i rest count now → TakenTo old e (suc i) (rest / 16) (count + (d + 15) / 16) (set now i v)
-taken-step old e i rest count now d v h ed ev k =
-    let inside : i < length now = omega (arith, k .long) in
-    let o : drop i old ≡ getD old i 0 ∷ drop (suc i) old = drop-cons old i 0 h in
-    let n : drop i now ≡ getD now i 0 ∷ drop (suc i) now = drop-cons now i 0 inside in
-    let b = k .behind in
-    let same : getD now i 0 ≡ getD old i 0 = cc in
-    let rear : drop (suc i) now ≡ drop (suc i) old = cc in
-    let put : v ≡ sum (getD old i 0) (rest % 16) = ev ∙ ap₂ sum same ed in
-    let low : rest % 16 < 16 = omega arith in
-    record {
-      long = length-set now i v ∙ k .long;
-      behind = drop-set-lt (suc i) now i v (omega arith) ∙ rear;
-      whole =
-          ap (λ (l : List ℕ). l ++ takenOff (drop (suc i) old) (rest / 16)) (take-suc-set now i v inside)
-          ∙ append-snoc (take i now) v (takenOff (drop (suc i) old) (rest / 16))
-          ∙ ap (λ (x : ℕ). take i now ++ x ∷ takenOff (drop (suc i) old) (rest / 16)) put
-          ∙ ap (λ (l : List ℕ). take i now ++ takenOff l rest) (sym o)
-          ∙ k .whole;
-      counted =
-          let was : count + (unequal (eqb (getD old i 0) (sum (getD old i 0) (rest % 16))) + apart (drop (suc i) old)
-          (takenOff (drop (suc i) old) (rest / 16))) ≡ apart old (takenOff old e)
-          = rw o at (k .counted) in
-          let one = changed (getD old i 0) (rest % 16) low in
-          let same-digit : (d + 15) / 16 ≡ (rest % 16 + 15) / 16 = ap (λ (x : ℕ). (x + 15) / 16) ed in
-          omega arith;
-      few = let f = k .few in omega arith;
-    }
+  module _ (i rest count : ℕ) (now : List ℕ) (k : TakenTo f old e i rest count now) where
+    taken-step : (d v c : ℕ) → i < length old → d ≡ rest % 16 → v ≡ sum (getD now i 0) d → c ≡ f (getD now i 0) v
+        → TakenTo f old e (suc i) (rest / 16) (count + c) (set now i v)
+    taken-step d v c h ed ev ec =
+        let inside : i < length now = omega (arith, k .long) in
+        let o : drop i old ≡ getD old i 0 ∷ drop (suc i) old = drop-cons old i 0 h in
+        let n : drop i now ≡ getD now i 0 ∷ drop (suc i) now = drop-cons now i 0 inside in
+        let b = k .behind in
+        let same : getD now i 0 ≡ getD old i 0 = cc in
+        let rear : drop (suc i) now ≡ drop (suc i) old = cc in
+        let put : v ≡ sum (getD old i 0) (rest % 16) = ev ∙ ap₂ sum same ed in
+        record {
+          long = length-set now i v ∙ k .long;
+          behind = drop-set-lt (suc i) now i v (omega arith) ∙ rear;
+          whole =
+              ap (λ (l : List ℕ). l ++ takenOff (drop (suc i) old) (rest / 16)) (take-suc-set now i v inside)
+              ∙ append-snoc (take i now) v (takenOff (drop (suc i) old) (rest / 16))
+              ∙ ap (λ (x : ℕ). take i now ++ x ∷ takenOff (drop (suc i) old) (rest / 16)) put
+              ∙ ap (λ (l : List ℕ). take i now ++ takenOff l rest) (sym o)
+              ∙ k .whole;
+          counted =
+              let was : count + (f (getD old i 0) (sum (getD old i 0) (rest % 16))
+              + changesBy f (drop (suc i) old) (takenOff (drop (suc i) old) (rest / 16))) ≡ changesBy f old (takenOff old e)
+              = rw o at (k .counted) in
+              let one : c ≡ f (getD old i 0) (sum (getD old i 0) (rest % 16)) = ec ∙ ap₂ f same put in
+              omega arith;
+        }
 
-pub taken-next : (old : List ℕ) (e i rest count : ℕ) (now : List ℕ) {d : ℕ} → i < length old → d ≡ rest % 16
-    → TakenTo old e i rest count now
-    → TakenTo old e (i + 1) (rest / 16) (count + (d + 15) / 16) (set now i (bitXor (getD now i 0) d))
-unfolding sum
-taken-next old e i rest count now {d} h ed k =
-    rw (add-one i) (taken-step old e i rest count now d (bitXor (getD now i 0) d) h ed refl k)
+    pub taken-next : {d c : ℕ} → i < length old → d ≡ rest % 16 → c ≡ f (getD now i 0) (sum (getD now i 0) d)
+        → TakenTo f old e (i + 1) (rest / 16) (count + c) (set now i (bitXor (getD now i 0) d))
+    unfolding sum
+    taken-next {d} {c} h ed ec = rw (add-one i) (taken-step d (bitXor (getD now i 0) d) c h ed refl ec)
 
-pub taken-last : (old : List ℕ) (e i rest count : ℕ) (now : List ℕ) → length old ≤ i → TakenTo old e i rest count now
-    → (now ≡ takenOff old e) × (count ≡ apart old now)
-taken-last old e i rest count now h k =
-    let none : drop i old ≡ [] = drop-of-length-le old h in
-    let all : now ≡ takenOff old e =
-    sym (take-append-drop i now) ∙ ap (λ (l : List ℕ). take i now ++ l) (k .behind ∙ none ∙ sym (ap (λ (l : List ℕ). takenOff l rest) none))
-    ∙ k .whole in
-    let total : count + 0 ≡ apart old (takenOff old e) = rw none at (k .counted) in
-    (all, sym (add-zero count) ∙ total ∙ ap (λ (l : List ℕ). apart old l) (sym all))
+    pub taken-last : length old ≤ i → (now ≡ takenOff old e) × (count ≡ changesBy f old now)
+    taken-last h =
+        let none : drop i old ≡ [] = drop-of-length-le old h in
+        let all : now ≡ takenOff old e =
+        sym (take-append-drop i now)
+        ∙ ap (λ (l : List ℕ). take i now ++ l) (k .behind ∙ none ∙ sym (ap (λ (l : List ℕ). takenOff l rest) none))
+        ∙ k .whole in
+        let total : count + 0 ≡ changesBy f old (takenOff old e) = rw none at (k .counted) in
+        (all, sym (add-zero count) ∙ total ∙ ap (λ (l : List ℕ). changesBy f old l) (sym all))

@@ -4,13 +4,13 @@
 -- Assumes nothing.
 use mathlib.Core.Path.{_≡_}
 use mathlib.Core.Logic.{_≢_}
-use mathlib.Core.Bool.{Bool, true, false}
 use mathlib.Core.List.{List, [], _∷_}
 use Prim.Native.Nat.{ℕ, zero, suc, _+_, _-_, _*_, _/_, _%_, _≤_, _<_}
+use lib.Dec.{eqb}
 use lib.ListN.{length, getD}
 use Rattle.gf16.specs.Field.{sum, product, power}
 use Rattle.code_word_laws.specs.Polynomial.{value}
-use Rattle.code_word_laws.specs.Word.{SemiOctets, Roots}
+use Rattle.code_word_laws.specs.Word.{SemiOctets, Roots, unequal, semiOctetChanged, bitsChanged, ones, apart, bitsApart}
 use Rattle.code_word_laws.specs.Correct.{WordCorrected, lengthAt}
 use Rattle.code_word_laws.specs.Packed.{nibble}
 
@@ -156,7 +156,22 @@ abbrev pub takenOff : List ℕ → ℕ → List ℕ
 takenOff [] e = []
 takenOff (c ∷ cs) e = sum c (e % 16) ∷ takenOff cs (e / 16)
 
--- a word is corrected by one change, or it is as it was
-pub record Tried (mode : ℕ) (old new : List ℕ) (r : Bool) : Type 0 where
-  pub one : r ≡ true → WordCorrected mode old new 1
-  pub kept : r ≡ false → new ≡ old
+-- both counts of a semi-octet in one number: its bits 16 times
+abbrev pub bothChanged : ℕ → ℕ → ℕ
+bothChanged x y = semiOctetChanged x y + 16 * bitsChanged x y
+
+-- those of an error of this value
+unfoldable pub bothOf : ℕ → ℕ
+bothOf v = unequal (eqb v 0) + 16 * ones v
+
+-- the errors in the digits of e are taken off, and both counts of them are in one number
+pub record IsTakenOff (old : List ℕ) (e : ℕ) (new : List ℕ) (both : ℕ) : Type 0 where
+  pub word-is : new ≡ takenOff old e
+  pub counted : both % 16 ≡ apart old new
+  pub bits-counted : both / 16 ≡ bitsApart old new
+  pub few : both ≤ 975
+
+-- a word is corrected by one change, of so many bits, or it is as it was, with none
+pub record Tried (mode : ℕ) (old new : List ℕ) (bits : ℕ) : Type 0 where
+  pub one : bits ≢ 0 → WordCorrected mode old new 1 bits
+  pub kept : bits ≡ 0 → new ≡ old

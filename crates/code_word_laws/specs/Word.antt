@@ -3,9 +3,9 @@
 use mathlib.Core.Path.{_≡_}
 use mathlib.Core.Bool.{Bool, true, false}
 use mathlib.Core.List.{List, [], _∷_}
-use Prim.Native.Nat.{ℕ, _+_, _-_, _*_, _≤_, _<_}
+use Prim.Native.Nat.{ℕ, _+_, _-_, _*_, _/_, _%_, _≤_, _<_}
 use lib.Dec.{eqb}
-use Rattle.gf16.specs.Field.{power}
+use Rattle.gf16.specs.Field.{sum, power}
 use Rattle.code_word_laws.specs.Polynomial.{value, Divides, generator}
 
 -- every element is a semi-octet
@@ -25,11 +25,30 @@ abbrev pub unequal : Bool → ℕ
 unequal true = 0
 unequal false = 1
 
--- the number of places in which two words of one length differ
+-- a changed semi-octet: 1 where the two differ, else 0
+abbrev pub semiOctetChanged : ℕ → ℕ → ℕ
+semiOctetChanged x y = unequal (eqb x y)
+
+-- the ones of a semi-octet
+unfoldable pub ones : ℕ → ℕ
+ones c = c % 2 + c / 2 % 2 + c / 4 % 2 + c / 8 % 2
+
+-- its changed bits: the ones in the difference of the two (document 02 §1)
+abbrev pub bitsChanged : ℕ → ℕ → ℕ
+bitsChanged x y = ones (sum x y)
+
+-- the changes between two words of one length, where f counts those of a semi-octet
+abbrev pub changesBy : (ℕ → ℕ → ℕ) → List ℕ → List ℕ → ℕ
+changesBy f [] ys = 0
+changesBy f (x ∷ xs) [] = 0
+changesBy f (x ∷ xs) (y ∷ ys) = f x y + changesBy f xs ys
+
+-- the number of places in which they differ, and of bits
 abbrev pub apart : List ℕ → List ℕ → ℕ
-apart [] ys = 0
-apart (x ∷ xs) [] = 0
-apart (x ∷ xs) (y ∷ ys) = unequal (eqb x y) + apart xs ys
+apart xs ys = changesBy semiOctetChanged xs ys
+
+abbrev pub bitsApart : List ℕ → List ℕ → ℕ
+bitsApart xs ys = changesBy bitsChanged xs ys
 
 -- the distance in mode m (A.10)
 abbrev pub distance : ℕ → ℕ

@@ -4,7 +4,7 @@ use mathlib.Core.Path.{_≡_, refl, sym, ap, ap₂, _∙_}
 use mathlib.Core.List.{List, [], _∷_, _++_}
 use Prim.Native.Nat.{ℕ, zero, suc, _+_, _*_, _-_, _≤_, _<_}
 use native.Mathlib.Omega.{arith}
-use native.Mathlib.Nat.{suc-mul, add-zero, zero-add, le-of-eq}
+use native.Mathlib.Nat.{suc-mul, mul-add, add-zero, zero-add, le-of-eq}
 use lib.ListN.{length, getD, take, drop}
 use lib.Seq.{drop-cons, ext-getD}
 use Rattle.laws.specs.Tab.{tab, total, Below}
@@ -111,6 +111,16 @@ total-most f c (suc n) h =
     let e = total-most f c n (λ i p. h i (omega arith)) in
     let m : suc n * c ≡ n * c + c = suc-mul n c in
     let k : f n ≤ c = h n (omega arith) in
+    omega arith
+
+-- a sum whose summands are at most c times those of another
+pub total-times : (f g : ℕ → ℕ) (c n : ℕ) → ((i : ℕ) → i < n → f i ≤ c * g i) → total f n ≤ c * total g n
+unfolding total
+total-times f g c zero h = omega arith
+total-times f g c (suc n) h =
+    let e = total-times f g c n (λ i p. h i (omega arith)) in
+    let k : f n ≤ c * g n = h n (omega arith) in
+    let m : c * (total g n + g n) ≡ c * total g n + c * g n = mul-add c (total g n) (g n) in
     omega arith
 
 -- the last n of m + n summands

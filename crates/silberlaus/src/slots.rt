@@ -27,7 +27,7 @@ pub extern "C" fn silberlaus_protect(
     silberlaus_slots::protect(size, mode, request, frame, sent)
 }
 
-// The frame, the request and the count of a received slot, or 1, 2, 3 or 4.
+// The frame, the request and the counts of a received slot, or 1, 2, 3 or 4.
 #[no_mangle]
 pub extern "C" fn silberlaus_unprotect(
     size: usize,

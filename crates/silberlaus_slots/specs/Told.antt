@@ -4,4 +4,4 @@ use Rattle.slot.specs.Unprotect.{Told}
 use Rattle.silberlaus_slots.specs.declared.SilberlausUnprotected.{SilberlausUnprotected}
 
 abbrev pub toldOf : SilberlausUnprotected → Told
-toldOf r = record { number = r .number; request = r .request; count = r .«semi_octets» }
+toldOf r = record { number = r .number; request = r .request; count = r .«semi_octets»; bits = r .bits }

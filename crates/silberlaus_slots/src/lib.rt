@@ -12,6 +12,7 @@ pub struct SilberlausUnprotected {
     pub number: u8,
     pub request: u8,
     pub semi_octets: u16,
+    pub bits: u16,
 }
 
 // A slot made of a frame and a request, or 1 or 2.
@@ -23,25 +24,27 @@ pub fn protect(size: usize, mode: u32, request: u32, frame: &[u8], sent: &mut [u
 
 // A refusal: its number, and zero in every other field.
 fn refused(number: u8) -> SilberlausUnprotected
-    ensures { λ r. ⌜ r ≡ record { number = number; request = 0; «semi_octets» = 0 } ⌝ }
+    ensures { λ r. ⌜ r ≡ record { number = number; request = 0; «semi_octets» = 0; bits = 0 } ⌝ }
 {
     SilberlausUnprotected {
         number,
         request: 0,
         semi_octets: 0,
+        bits: 0,
     }
 }
 
-// The frame, the request and the count of a received slot, or 1, 2, 3 or 4.
+// The frame, the request and the counts of a received slot, or 1, 2, 3 or 4.
 pub fn unprotect(size: usize, mode: u32, received: &[u8], frame: &mut [u8]) -> SilberlausUnprotected
     ensures { λ r. ⌜ Unprotects size mode (now (received .entry)) (now (frame .entry)) (now (frame .exit)) (toldOf r) ⌝ }
     ensures { λ r. ⌜ Recordable (toldOf r) (now (frame .exit)) ⌝ }
 {
     match slot::unprotect(size, mode, received, frame) {
-        Reception::Accepted(q, n) => SilberlausUnprotected {
+        Reception::Accepted(q, n, b) => SilberlausUnprotected {
             number: 0,
             request: q,
             semi_octets: n,
+            bits: b,
         },
         Reception::Setting => refused(1),
         Reception::Length => refused(2),

@@ -5,23 +5,24 @@ use mathlib.Core.List.{List}
 use Prim.Native.Nat.{ℕ, zero, suc, _*_, _-_, _<_}
 use native.Mathlib.Omega.{arith}
 use lib.Dec.{eqb}
-use borrow.Author.Tests.{eqb-true, eq-eqb}
+use borrow.Author.Tests.{eqb-true}
 use Rattle.laws.specs.Tab.{Below}
 use Rattle.laws.proofs.Tab.{total-zero}
 use Rattle.laws.proofs.Spread.{total-nil}
-use Rattle.code_word_laws.specs.Word.{unequal, apart, distance}
+use Rattle.code_word_laws.specs.Word.{unequal, semiOctetChanged, apart, distance}
+use Rattle.code_word_laws.proofs.Changes.{semi-octet-same}
 use Rattle.code_word_laws.proofs.Division.{unique}
 use Rattle.slot_laws.specs.Sizes.{InRange, words}
 use Rattle.slot_laws.specs.Semi.{Bytes, semi}
 use Rattle.slot_laws.specs.Words.{signature, received}
 use Rattle.slot_laws.specs.Slot.{Sent, slotOf, wordIn}
-use Rattle.slot_laws.specs.Changes.{changed, changes, changesIn, AtMost}
+use Rattle.slot_laws.specs.Changes.{changed, slotChanges, changes, bitChanges, changesIn, AtMost}
 use Rattle.slot_protection.specs.Protect.{Lengths, Protects}
 use Rattle.slot_laws.specs.Corrected.{Corrected}
 use Rattle.slot.specs.Unprotect.{Told, acceptedWith, Taken, IsAccepted, Promised, Unprotects}
 use Rattle.slot.specs.Demand.{DemandThree}
 use Rattle.slot_laws.proofs.Semi.{semi-same}
-use Rattle.slot_laws.proofs.Places.{changes-words, changes-word}
+use Rattle.slot_laws.proofs.Places.{semi-octets-shifted, changes-words, changes-word}
 use Rattle.slot_laws.proofs.Slot.{words-in, AllValid, bytes-slot-of, valid-slot}
 use Rattle.slot.proofs.Rule.{is-accepted, same-words, word-fits, word-semi-octets, SameAnswer, verdict-only}
 
@@ -36,12 +37,13 @@ same-at a b e = go (eqb a b) refl e
 
 -- no changed place: the same slot
 pub no-changes : (size : ℕ) (s r : List ℕ) → Bytes size s → Bytes size r → changes size s r ≡ 0 → s ≡ r
-unfolding changes changed
-no-changes size s r a b e = semi-same s r size a b (λ p l. same-at (semi s p) (semi r p) (total-zero (changed s r) (2 * size) e p l))
+unfolding slotChanges changed
+no-changes size s r a b e =
+    semi-same s r size a b (λ p l. same-at (semi s p) (semi r p) (total-zero (changed semiOctetChanged s r) (2 * size) e p l))
 
 pub changes-self : (size : ℕ) (s : List ℕ) → changes size s s ≡ 0
-unfolding changes changed
-changes-self size s = total-nil (changed s s) (2 * size) (λ p l. ap unequal (eq-eqb (semi s p) (semi s p) refl))
+unfolding slotChanges changed
+changes-self size s = total-nil (changed semiOctetChanged s s) (2 * size) (λ p l. semi-octet-same (semi s p))
 
 -- the changed places of word i, as places of the word
 word-changes : (size mode : ℕ) (s r : List ℕ) → InRange size mode → (i : ℕ) → i < words size
@@ -52,6 +54,10 @@ word-changes size mode s r g i l = changes-word size (signature mode) s r i (g .
 -- ---- one slot sent and one received
 
 module _ (size mode q : ℕ) (frame slot old : List ℕ) (taken : Taken size mode slot old) (sent : Sent size mode q frame) where
+  -- what was sent, with the true counts
+  abbrev counted-with : Told
+  counted-with = let made = slotOf size mode q frame in acceptedWith q (changes size slot made) (bitChanges size slot made)
+
   -- with at most m - 1 changes in each word, what was sent is the corrected slot
   repaired : AtMost (mode - 1) size slot (slotOf size mode q frame) → Corrected size mode slot (slotOf size mode q frame)
   repaired few =
@@ -68,15 +74,15 @@ module _ (size mode q : ℕ) (frame slot old : List ℕ) (taken : Taken size mod
       }
 
   accepted : AtMost (mode - 1) size slot (slotOf size mode q frame)
-      → Unprotects size mode slot old frame (acceptedWith q (changes size slot (slotOf size mode q frame)))
-  accepted few = record { taken = taken; sent = sent; corrected = repaired few; counted = refl }
+      → Unprotects size mode slot old frame counted-with
+  accepted few = record { taken = taken; sent = sent; corrected = repaired few; counted = refl; bits-counted = refl }
 
   -- nothing changed is at most m - 1
   none-changed : changes size slot (slotOf size mode q frame) ≡ 0 → AtMost (mode - 1) size slot (slotOf size mode q frame)
   none-changed e i l =
       let r = taken .range in
       let made = slotOf size mode q frame in
-      let t = sym (changes-words size (signature mode) slot made (r .size-from)) ∙ e in
+      let t = sym (changes-words semiOctetChanged semi-octets-shifted size (signature mode) slot made (r .size-from)) ∙ e in
       let z = total-zero (λ i. apart (received size (signature mode) slot i) (received size (signature mode) made i)) (words size) t i l in
       let c = changes-word size (signature mode) slot made i (r .size-from) l in
       omega arith
@@ -108,9 +114,8 @@ module _ (size mode q : ℕ) (frame slot old : List ℕ) (taken : Taken size mod
   -- with at most m - 1 changes in each word, the answer is what was sent
   same-back : (new : List ℕ) (answer : Told) → Unprotects size mode slot old new answer
       → AtMost (mode - 1) size slot (slotOf size mode q frame)
-      → SameAnswer new frame answer (acceptedWith q (changes size slot (slotOf size mode q frame)))
-  same-back new answer u few =
-      verdict-only size mode slot old new frame answer (acceptedWith q (changes size slot (slotOf size mode q frame))) u (accepted few)
+      → SameAnswer new frame answer counted-with
+  same-back new answer u few = verdict-only size mode slot old new frame answer counted-with u (accepted few)
 
   demand : (new : List ℕ) (answer : Told) → Unprotects size mode slot old new answer
       → DemandThree size mode q frame (slotOf size mode q frame) slot new answer

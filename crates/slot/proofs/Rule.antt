@@ -11,7 +11,7 @@ use Rattle.slot_laws.specs.Sizes.{InRange, words}
 use Rattle.slot_laws.specs.Semi.{Bytes}
 use Rattle.slot_laws.specs.Words.{signature, received}
 use Rattle.slot_laws.specs.Slot.{slotOf, wordIn}
-use Rattle.slot_laws.specs.Changes.{changes}
+use Rattle.slot_laws.specs.Changes.{changes, bitChanges}
 use Rattle.slot_laws.specs.Corrected.{Corrected, SomeBeyond}
 use Rattle.slot.specs.Unprotect.{Told, acceptedWith, refusedWith, Taken, IsAccepted, Refused, IsForeign, Promised, Unprotects}
 use Rattle.slot_laws.proofs.Sizes.{length-high}
@@ -59,12 +59,12 @@ pub is-accepted : (number size mode : ℕ) (slot old new : List ℕ) (answer : T
 is-accepted number size mode slot old new answer e u = rw e at u
 
 -- two answers tell the same when every part is the same
-told-same : (a b : Told) → a .number ≡ b .number → a .request ≡ b .request → a .count ≡ b .count → a ≡ b
-told-same a b e f g =
-    ap₂ (λ (k q : ℕ). told k q (a .count)) e f ∙ ap (told (b .number) (b .request)) g
+told-same : (a b : Told) → a .number ≡ b .number → a .request ≡ b .request → a .count ≡ b .count → a .bits ≡ b .bits → a ≡ b
+told-same a b e f g h =
+    ap₂ (λ (k q : ℕ). told k q (a .count) (a .bits)) e f ∙ ap₂ (told (b .number) (b .request)) g h
   where
-    told : ℕ → ℕ → ℕ → Told
-    told k q n = record { number = k; request = q; count = n }
+    told : ℕ → ℕ → ℕ → ℕ → Told
+    told k q n b = record { number = k; request = q; count = n; bits = b }
 
 -- two calls answer the same, and leave the same frame
 pub record SameAnswer (new new' : List ℕ) (a b : Told) : Type 0 where
@@ -94,7 +94,8 @@ module _ (size mode : ℕ) (slot old new new' : List ℕ) (a b : Told) where
       record {
         answer-same = told-same a b f
             (sym (request-slot size mode q new r (u .sent)) ∙ ap (requestFrom size mode) e ∙ request-slot size mode p new' r (v .sent))
-            (u .counted ∙ ap (changes size slot) e ∙ sym (v .counted));
+            (u .counted ∙ ap (changes size slot) e ∙ sym (v .counted))
+            (u .bits-counted ∙ ap (bitChanges size slot) e ∙ sym (v .bits-counted));
         frame-same = sym (frame-slot size mode q new r (u .sent)) ∙ ap (frameFrom size mode) e ∙ frame-slot size mode p new' r (v .sent);
       }
 
@@ -144,7 +145,7 @@ pub valid-corrected : (size mode : ℕ) (slot c : List ℕ) → Corrected size m
 valid-corrected size mode slot c a i l = a .near i l .valid
 
 pub accepts : (size mode : ℕ) (slot old c : List ℕ) → Taken size mode slot old → Corrected size mode slot c → HashesMatch size mode c
-    → Unprotects size mode slot old (frameFrom size mode c) (acceptedWith (requestFrom size mode c) (changes size slot c))
+    → Unprotects size mode slot old (frameFrom size mode c) (acceptedWith (requestFrom size mode c) (changes size slot c) (bitChanges size slot c))
 accepts size mode slot old c t a m =
     let e = slot-read size mode c (t .range) (a .bytes) (valid-corrected size mode slot c a) m in
     record {
@@ -152,6 +153,7 @@ accepts size mode slot old c t a m =
       sent = sent-from size mode c (t .range);
       corrected = rw e a;
       counted = ap (changes size slot) (sym e);
+      bits-counted = ap (bitChanges size slot) (sym e);
     }
 
 pub refuses : (size mode : ℕ) (slot old c : List ℕ) → Taken size mode slot old → Corrected size mode slot c → (HashesMatch size mode c → ⊥)

@@ -24,7 +24,7 @@ use Rattle.slot.proofs.Rule.{accepts, refuses}
 use Rattle.slot.proofs.Demand.{demand-three}
 use Rattle.slot_interleaving.proofs.PlaceSteps.{zeros-at}
 use Rattle.slot_laws.proofs.ProtectSteps.{blanks}
-use Rattle.slot_repair.proofs.ReceiveSteps.{corrected-slot, count-changes}
+use Rattle.slot_repair.proofs.ReceiveSteps.{corrected-slot, count-changes, bits-changes}
 
 -- room for the data
 pub data-blank : (size mode e : ℕ) → e ≡ dataSize size mode → e ≤ 800 → Data size mode (take e blanks)
@@ -34,8 +34,8 @@ data-blank size mode e h l = record {
 }
 
 -- the words corrected, the swap undone, the heading compared, the frame written or not
-module _ (size mode : ℕ) (slot old new message order : List ℕ) (count : ℕ) (taken : Taken size mode slot old)
-    (corrected : MendedTo size mode slot message (words size) count) (unmixed : order ≡ requestSwapped size mode message) where
+module _ (size mode : ℕ) (slot old new message order : List ℕ) (count bits : ℕ) (taken : Taken size mode slot old)
+    (corrected : MendedTo size mode slot message (words size) count bits) (unmixed : order ≡ requestSwapped size mode message) where
   hashes : HashesMatch size mode (slotWith size mode message) ≡ Matches size mode order
   unfolding HashesMatch
   hashes =
@@ -61,14 +61,15 @@ module _ (size mode : ℕ) (slot old new message order : List ℕ) (count : ℕ)
   foreign-answer d =
       rw (d .kept)
       (refuses size mode slot old (slotWith size mode message) taken
-      (corrected-slot size mode slot message count (taken .range) corrected) (rw hashes (d .foreign)))
+      (corrected-slot size mode slot message count bits (taken .range) corrected) (rw hashes (d .foreign)))
 
   pub accepted-answer : (q : ℕ) → q ≡ requestIn size order → IsDelivered size mode order old new true
-      → Unprotects size mode slot old new (acceptedWith q count)
+      → Unprotects size mode slot old new (acceptedWith q count bits)
   accepted-answer q f d =
-      rw (frame-as (d .frame-is), request-as q f, count-changes size mode slot message count (taken .range) corrected)
+      rw (frame-as (d .frame-is), request-as q f, count-changes size mode slot message count bits (taken .range) corrected,
+      bits-changes size mode slot message count bits (taken .range) corrected)
       (accepts size mode slot old (slotWith size mode message) taken
-      (corrected-slot size mode slot message count (taken .range) corrected) (rw hashes (d .matching)))
+      (corrected-slot size mode slot message count bits (taken .range) corrected) (rw hashes (d .matching)))
 
 -- demand 3 follows from the two contracts
 pub carried : (number size mode q : ℕ) (frame lent sent slot old new : List ℕ) (answer : Told) → Protects size mode q frame lent sent number

@@ -1,35 +1,37 @@
 -- What unprotecting answers: document 01's number and values for each case of the enum, and what each number promises.
 -- Assumes nothing.
 use mathlib.Core.Path.{_≡_}
+use mathlib.Core.Logic.{_↔_}
 use mathlib.Core.List.{List}
-use Prim.Native.Nat.{ℕ, zero, suc, _≤_}
+use Prim.Native.Nat.{ℕ, zero, suc, _*_, _≤_}
 use lib.ListN.{length}
 use Rattle.laws.specs.Tab.{Below}
 use Rattle.slot_laws.specs.Sizes.{InRange}
 use Rattle.slot_laws.specs.Slot.{Sent, slotOf}
-use Rattle.slot_laws.specs.Changes.{changes}
+use Rattle.slot_laws.specs.Changes.{changes, bitChanges}
 use Rattle.slot_protection.specs.Protect.{Lengths}
 use Rattle.slot.specs.declared.Reception.{Reception}
 use Rattle.slot.specs.declared.Reception.the-variants.{Accepted, Setting, Length, Beyond, Foreign}
 use Rattle.slot_laws.specs.Corrected.{Corrected, SomeBeyond}
 
--- what an answer tells beside the frame: document 01's number, the request and the count of changed semi-octets
+-- what an answer tells beside the frame: document 01's number, the request, the count of changed semi-octets and that of changed bits
 pub record Told : Type 0 where
   pub number : ℕ
   pub request : ℕ
   pub count : ℕ
+  pub bits : ℕ
 
 -- an accepted slot's answer
-abbrev pub acceptedWith : ℕ → ℕ → Told
-acceptedWith q n = record { number = 0; request = q; count = n }
+abbrev pub acceptedWith : ℕ → ℕ → ℕ → Told
+acceptedWith q n b = record { number = 0; request = q; count = n; bits = b }
 
 -- a refusal: its number, and zero in every other field
 abbrev pub refusedWith : ℕ → Told
-refusedWith number = record { number = number; request = 0; count = 0 }
+refusedWith number = record { number = number; request = 0; count = 0; bits = 0 }
 
 -- 0: accepted; 1: a setting is out of range; 2: a buffer hasn't its length; 3: a word beyond repair; 4: no frame and request make it
 abbrev pub toldOf : Reception → Told
-toldOf (Accepted q n) = acceptedWith q n
+toldOf (Accepted q n b) = acceptedWith q n b
 toldOf Setting = refusedWith 1
 toldOf Length = refusedWith 2
 toldOf Beyond = refusedWith 3
@@ -41,12 +43,14 @@ pub record Taken (size mode : ℕ) (slot old : List ℕ) : Type 0 where
   pub lengths : Lengths size mode old slot
   pub bytes : Below 256 slot
 
--- the corrected slot is what protecting makes of this frame and request; the count is that of the semi-octets in which the two slots differ
+-- the corrected slot is what protecting makes of this frame and request; the counts are those of the semi-octets and of the bits in which
+-- the two slots differ
 pub record IsAccepted (size mode : ℕ) (slot old new : List ℕ) (answer : Told) : Type 0 where
   pub taken : Taken size mode slot old
   pub sent : Sent size mode (answer .request) new
   pub corrected : Corrected size mode slot (slotOf size mode (answer .request) new)
   pub counted : answer .count ≡ changes size slot (slotOf size mode (answer .request) new)
+  pub bits-counted : answer .bits ≡ bitChanges size slot (slotOf size mode (answer .request) new)
 
 -- a refusal: every other field is zero, and the frame buffer is as lent
 pub record Refused (old new : List ℕ) (answer : Told) : Type 0 where
@@ -90,10 +94,15 @@ Promised (suc (suc (suc (suc (suc m))))) size mode slot old new answer = ⊥
 abbrev pub Unprotects : ℕ → ℕ → List ℕ → List ℕ → List ℕ → Told → Type 0
 Unprotects size mode slot old new answer = Promised (answer .number) size mode slot old new answer
 
--- what a record can hold: the request, a count of at most 54 words x 3, and the shortest and the longest frame
+-- the bounds of an accepted answer, which a record can hold: the request, at most 54 words x 3 semi-octets, one to four bits for each of
+-- them, so that either count is 0 where the other is, and the shortest and the longest frame
 pub record InRecord (answer : Told) (new : List ℕ) : Type 0 where
   pub request-to : answer .request ≤ 3
   pub count-to : answer .count ≤ 162
+  pub bits-from : answer .count ≤ answer .bits
+  pub bits-within : answer .bits ≤ 4 * answer .count
+  pub bits-to : answer .bits ≤ 648
+  pub same-clean : (answer .bits ≡ 0) ↔ (answer .count ≡ 0)
   pub frame-from : 20 ≤ length new
   pub frame-to : length new ≤ 343
 

@@ -12,9 +12,9 @@ pub use slot_protection::protect;
 use slot_repair::Outcome;
 pub use slot_sizes::frame_size;
 
-// What unprotecting found: the request and the count of changed semi-octets, or document 01's refusal 1, 2, 3 or 4.
+// What unprotecting found: the request and the counts of changed semi-octets and of changed bits, or document 01's refusal 1, 2, 3 or 4.
 pub enum Reception {
-    Accepted(u8, u16),
+    Accepted(u8, u16, u16),
     Setting,
     Length,
     Beyond,
@@ -27,7 +27,7 @@ impl Reception {
         ensures { λ r. ⌜ r ≡ toldOf self .number ⌝ }
     {
         match self {
-            Reception::Accepted(_, _) => 0,
+            Reception::Accepted(_, _, _) => 0,
             Reception::Setting => 1,
             Reception::Length => 2,
             Reception::Beyond => 3,
@@ -70,7 +70,7 @@ fn judge(size: usize, mode: usize, slot: &[u8], message: &mut [u8], frame: &mut 
     requires { ⌜ Judgeable size mode (now slot) (now message) (now frame) ⌝ }
     ensures { λ r. ⌜ Unprotects size mode (now (slot .entry)) (now (frame .entry)) (now (frame .exit)) (toldOf r) ⌝ }
 {
-    let Outcome::Repaired(count) = slot_repair::correct_slot(size, mode, slot, message) else {
+    let Outcome::Repaired(count, bits) = slot_repair::correct_slot(size, mode, slot, message) else {
         return Reception::Beyond;
     };
     slot_ordering::swap_request(size, mode, message);
@@ -79,7 +79,7 @@ fn judge(size: usize, mode: usize, slot: &[u8], message: &mut [u8], frame: &mut 
     if !slot_delivery::deliver(size, mode, request as u32, message, frame) {
         return Reception::Foreign;
     }
-    Reception::Accepted(request, count)
+    Reception::Accepted(request, count, bits)
 }
 
 // Demand 3 of the running code: a slot is protected, and whatever was received in its place is unprotected.

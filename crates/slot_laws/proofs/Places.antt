@@ -11,15 +11,16 @@ use lib.Dec.{eqb}
 use lib.ListN.{length, getD}
 use borrow.Author.Tests.{eqb-true, eqb-false, eq-eqb, ne-eqb}
 use Rattle.laws.specs.Tab.{tab, total, Below}
-use Rattle.laws.proofs.Tab.{length-tab, getD-tab, tab-is, below-tab, total-same, total-front, total-turned, total-none}
+use Rattle.laws.proofs.Tab.{length-tab, getD-tab, tab-is, below-tab, total-same, total-front, total-turned, total-none, total-times}
 use Rattle.laws.proofs.Spread.{part, spread, spread-one}
 use Rattle.gf16.specs.Field.{sum}
-use Rattle.gf16.proofs.Laws.{sum-undone, sum-lt}
-use Rattle.code_word_laws.specs.Word.{unequal, apart}
+use Rattle.gf16.proofs.Laws.{sum-assoc, sum-comm, sum-undone, sum-lt, cancel}
+use Rattle.code_word_laws.specs.Word.{unequal, semiOctetChanged, ones, bitsChanged, changesBy, apart}
+use Rattle.code_word_laws.proofs.Changes.{bits-between}
 use Rattle.slot_laws.specs.Sizes.{words, wordLength}
 use Rattle.slot_laws.specs.Semi.{Bytes, semi}
 use Rattle.slot_laws.specs.Words.{placeOf, wordOf, numberIn, slotFrom, received}
-use Rattle.slot_laws.specs.Changes.{changed, changes, changesIn}
+use Rattle.slot_laws.specs.Changes.{changed, slotChanges, changes, bitChanges, changesIn}
 use Rattle.slot_laws.proofs.Sizes.{words-low, length-share, place-in, in-place}
 use Rattle.slot_laws.proofs.Semi.{semi-lt, semi-pack, pack-same, pack-semi, bytes-pack}
 
@@ -28,7 +29,6 @@ pub record AllWords (size : ℕ) (w : ℕ → List ℕ) : Type 0 where
   pub long : (i : ℕ) → i < words size → length (w i) ≡ wordLength size i
   pub below : (i : ℕ) → i < words size → Below 16 (w i)
 
--- what is added twice is gone
 -- ---- places
 
 pub word-lt : (size p : ℕ) → 40 ≤ size → wordOf size p < words size
@@ -120,6 +120,10 @@ slot-same size g v w h e =
 
 -- ---- changed places
 
+-- f counts no change in what is added to both
+abbrev pub Shifted : (ℕ → ℕ → ℕ) → Type 0
+Shifted f = (a b c : ℕ) → f (sum a c) (sum b c) ≡ f a b
+
 -- the signature hides no change and makes none
 shift-eqb : (a b c : ℕ) → eqb (sum a c) (sum b c) ≡ eqb a b
 shift-eqb a b c = go (eqb a b) refl
@@ -130,20 +134,18 @@ shift-eqb a b c = go (eqb a b) refl
         ne-eqb (sum a c) (sum b c)
         (λ x. eqb-false a b e (sym (sum-undone a c) ∙ ap (λ (y : ℕ). sum y c) x ∙ sum-undone b c))
 
-apart-tab : (f g : ℕ → ℕ) (n : ℕ) → apart (tab f n) (tab g n) ≡ total (λ k. unequal (eqb (f k) (g k))) n
-unfolding tab
-apart-tab f g zero = sym (total-none (λ k. unequal (eqb (f k) (g k))))
-apart-tab f g (suc n) =
-    ap (λ (x : ℕ). unequal (eqb (f 0) (g 0)) + x) (apart-tab (λ k. f (suc k)) (λ k. g (suc k)) n)
-    ∙ sym (total-front (λ k. unequal (eqb (f k) (g k))) n)
+pub semi-octets-shifted : Shifted semiOctetChanged
+semi-octets-shifted a b c = ap unequal (shift-eqb a b c)
 
--- the places of a word in which two slots differ
-apart-received : (size : ℕ) (g : ℕ → ℕ → ℕ) (s r : List ℕ) (i : ℕ)
-    → apart (received size g s i) (received size g r i) ≡ total (λ k. changed s r (placeOf size i k)) (wordLength size i)
-unfolding received changed
-apart-received size g s r i =
-    apart-tab (λ k. sum (semi s (placeOf size i k)) (g i k)) (λ k. sum (semi r (placeOf size i k)) (g i k)) (wordLength size i)
-    ∙ total-same _ _ (wordLength size i) (λ k l. ap unequal (shift-eqb (semi s (placeOf size i k)) (semi r (placeOf size i k)) (g i k)))
+pub bits-shifted : Shifted bitsChanged
+bits-shifted a b c =
+    ap ones (ap (λ (x : ℕ). sum (sum a c) x) (sum-comm b c) ∙ sum-assoc a c (sum c b) ∙ ap (λ (x : ℕ). sum a x) (cancel c b))
+
+changes-tab : (m : ℕ → ℕ → ℕ) (f g : ℕ → ℕ) (n : ℕ) → changesBy m (tab f n) (tab g n) ≡ total (λ k. m (f k) (g k)) n
+unfolding tab
+changes-tab m f g zero = sym (total-none (λ k. m (f k) (g k)))
+changes-tab m f g (suc n) =
+    ap (λ (x : ℕ). m (f 0) (g 0) + x) (changes-tab m (λ k. f (suc k)) (λ k. g (suc k)) n) ∙ sym (total-front (λ k. m (f k) (g k)) n)
 
 -- what a word holds of the places from the last down
 part-word : (size : ℕ) (f : ℕ → ℕ) (i : ℕ) → 40 ≤ size → i < words size
@@ -154,25 +156,45 @@ part-word size f i h l =
     ∙ total-same _ _ (wordLength size i)
     (λ k m. let e : 2 * size - 1 - (words size * k + i) ≡ 2 * size - words size * k - i - 1 = omega arith in ap f e)
 
--- the changed places of a slot are those of its words
-pub changes-words : (size : ℕ) (g : ℕ → ℕ → ℕ) (s r : List ℕ) → 40 ≤ size
-    → changes size s r ≡ total (λ i. apart (received size g s i) (received size g r i)) (words size)
-unfolding changes
-changes-words size g s r h =
-    total-turned (changed s r) (2 * size)
-    ∙ spread (λ j. changed s r (2 * size - 1 - j)) (words size) (2 * size) (omega (arith, words-low size h))
-    ∙ total-same _ _ (words size) (λ i l. part-word size (changed s r) i h l ∙ sym (apart-received size g s r i))
+module _ (m : ℕ → ℕ → ℕ) (shifted : Shifted m) (size : ℕ) (g : ℕ → ℕ → ℕ) (s r : List ℕ) where
+  -- the changes of a word are those at its places
+  changes-received : (i : ℕ)
+      → changesBy m (received size g s i) (received size g r i) ≡ total (λ k. changed m s r (placeOf size i k)) (wordLength size i)
+  unfolding received changed
+  changes-received i =
+      changes-tab m (λ k. sum (semi s (placeOf size i k)) (g i k)) (λ k. sum (semi r (placeOf size i k)) (g i k)) (wordLength size i)
+      ∙ total-same _ _ (wordLength size i) (λ k l. shifted (semi s (placeOf size i k)) (semi r (placeOf size i k)) (g i k))
 
--- .. and those that belong to a word are those of that word
+  -- the changes of a slot are those of its words
+  pub changes-words : 40 ≤ size → slotChanges m size s r ≡ total (λ i. changesBy m (received size g s i) (received size g r i)) (words size)
+  unfolding slotChanges
+  changes-words h =
+      total-turned (changed m s r) (2 * size)
+      ∙ spread (λ j. changed m s r (2 * size - 1 - j)) (words size) (2 * size) (omega (arith, words-low size h))
+      ∙ total-same _ _ (words size) (λ i l. part-word size (changed m s r) i h l ∙ sym (changes-received i))
+
+-- .. and the changed places that belong to a word are those of that word
 pub changes-word : (size : ℕ) (g : ℕ → ℕ → ℕ) (s r : List ℕ) (i : ℕ) → 40 ≤ size → i < words size
     → changesIn size s r i ≡ apart (received size g s i) (received size g r i)
 unfolding changesIn wordOf
 changes-word size g s r i h l =
-    total-turned (λ p. cond (eqb (wordOf size p) i) (changed s r p) 0) (2 * size)
-    ∙ total-same _ (λ j. cond (eqb (j % words size) i) (changed s r (2 * size - 1 - j)) 0) (2 * size)
+    total-turned (λ p. cond (eqb (wordOf size p) i) (changed semiOctetChanged s r p) 0) (2 * size)
+    ∙ total-same _ (λ j. cond (eqb (j % words size) i) (changed semiOctetChanged s r (2 * size - 1 - j)) 0) (2 * size)
     (λ j m.
     let e : 2 * size - 1 - (2 * size - 1 - j) ≡ j = omega arith in
-    ap (λ (x : ℕ). cond (eqb (x % words size) i) (changed s r (2 * size - 1 - j)) 0) e)
-    ∙ spread-one (λ j. changed s r (2 * size - 1 - j)) (words size) (2 * size) i l
-    ∙ part-word size (changed s r) i h l
-    ∙ sym (apart-received size g s r i)
+    ap (λ (x : ℕ). cond (eqb (x % words size) i) (changed semiOctetChanged s r (2 * size - 1 - j)) 0) e)
+    ∙ spread-one (λ j. changed semiOctetChanged s r (2 * size - 1 - j)) (words size) (2 * size) i l
+    ∙ part-word size (changed semiOctetChanged s r) i h l
+    ∙ sym (changes-received semiOctetChanged semi-octets-shifted size g s r i)
+
+-- a slot's changed bits are no fewer than its changed semi-octets, and at most four times them
+pub bit-changes-between : (size : ℕ) (s r : List ℕ) → (changes size s r ≤ bitChanges size s r) × (bitChanges size s r ≤ 4 * changes size s r)
+unfolding slotChanges changed
+bit-changes-between size s r =
+    let l = total-times (changed semiOctetChanged s r) (changed bitsChanged s r) 1 (2 * size) (λ p h. omega (arith, between p .0)) in
+    let m = total-times (changed bitsChanged s r) (changed semiOctetChanged s r) 4 (2 * size) (λ p h. between p .1) in
+    (omega arith, omega arith)
+  where
+    between : (p : ℕ) → (semiOctetChanged (semi s p) (semi r p) ≤ bitsChanged (semi s p) (semi r p))
+        × (bitsChanged (semi s p) (semi r p) ≤ 4 * semiOctetChanged (semi s p) (semi r p))
+    between p = bits-between (semi s p) (semi r p) (semi-lt s p) (semi-lt r p)

@@ -17,7 +17,7 @@ use borrow.Rule.Slice.PartMut.{midOf, putMid, same-len-mid}
 use Rattle.laws.specs.Tab.{total, Below}
 use Rattle.laws.proofs.Tab.{total-same, total-next, total-none, total-up, below-drop}
 use Rattle.laws.proofs.Spread.{share}
-use Rattle.code_word_laws.specs.Word.{Fits, apart, distance, IsDistance}
+use Rattle.code_word_laws.specs.Word.{Fits, semiOctetChanged, bitsChanged, changesBy, distance, IsDistance}
 use Rattle.code_word_laws.specs.Make.{coded}
 use Rattle.code_word_laws.specs.Correct.{Near, WordCorrected, lengthAt, startAt, wordAt, Batch, AllCorrected}
 use Rattle.code_word.specs.Correct.{CorrectsEach}
@@ -162,18 +162,21 @@ arrived-all size mode i at places all r b e k =
 
 -- ---- all words corrected in one call
 
--- what is left of each word, and its count
-pub record Answered (size mode : ℕ) (places all counts : List ℕ) : Type 0 where
+-- what is left of each word, and its counts
+pub record Answered (size mode : ℕ) (places all counts bits : List ℕ) : Type 0 where
   pub long : length all ≡ 2 * size
   pub below : Below 16 all
   pub many : length counts ≡ words size
-  pub each : (i : ℕ) → i < words size → WordCorrected mode (wordFrom size mode places i) (piece (wordLength size) all i) (getD counts i 0)
+  pub many-bits : length bits ≡ words size
+  pub each : (i : ℕ) → i < words size
+      → WordCorrected mode (wordFrom size mode places i) (piece (wordLength size) all i) (getD counts i 0) (getD bits i 0)
 
-module _ (size mode : ℕ) (places old room : List ℕ) (range : InRange size mode) (arrived : AllArrived size mode places old)
-    (some : length room ≡ words size) where
-  batch : Batch mode old room
+module _ (size mode : ℕ) (places old room bit-room : List ℕ) (range : InRange size mode) (arrived : AllArrived size mode places old)
+    (some : length room ≡ words size) (bits-some : length bit-room ≡ words size) where
+  batch : Batch mode old room bit-room
   batch = record {
     some = omega (arith, some, words-low size (range .size-from));
+    both = bits-some ∙ sym some;
     fits = λ i l.
         let k : i < words size = omega (arith, some) in
         let lo = length-low size i (range .size-from) k in
@@ -184,14 +187,15 @@ module _ (size mode : ℕ) (places old room : List ℕ) (range : InRange size mo
     semi-octets = semi-octets-of old (arrived .below);
   }
 
-  each-answered : (new counts : List ℕ) (number : ℕ) → CorrectsEach mode old room new counts number → AllCorrected mode old room new counts
-  each-answered new counts zero c = c
-  each-answered new counts (suc zero) c = absurd (c .unfit batch)
-  each-answered new counts (suc (suc n)) c = absurd c
+  each-answered : (new counts bits : List ℕ) (number : ℕ) → CorrectsEach mode old room bit-room new counts bits number
+      → AllCorrected mode old room bit-room new counts bits
+  each-answered new counts bits zero c = c
+  each-answered new counts bits (suc zero) c = absurd (c .unfit batch)
+  each-answered new counts bits (suc (suc n)) c = absurd c
 
-  module _ (new counts : List ℕ) (corrected : AllCorrected mode old room new counts) where
+  module _ (new counts bits : List ℕ) (corrected : AllCorrected mode old room bit-room new counts bits) where
     each-corrected : (i : ℕ) → i < words size → WordCorrected mode (wordFrom size mode places i) (piece (wordLength size) new i)
-        (getD counts i 0)
+        (getD counts i 0) (getD bits i 0)
     each-corrected i l =
         let m = corrected .as-many ∙ some in
         let a = word-at size i (length counts) old (range .size-from) l (arrived .long) m ∙ arrived .each i l in
@@ -205,9 +209,10 @@ module _ (size mode : ℕ) (places old room : List ℕ) (range : InRange size mo
         let k = each-corrected i l .kept (ltb-false (getD counts i 0) mode e) ∙ sym (arrived .each i l) in
         rw k (below-piece 16 (wordLength size) old i (omega arith) (arrived .below))
 
-  pub answered : (new counts : List ℕ) (number : ℕ) → CorrectsEach mode old room new counts number → Answered size mode places new counts
-  answered new counts number c =
-      let a = each-answered new counts number c in
+  pub answered : (new counts bits : List ℕ) (number : ℕ) → CorrectsEach mode old room bit-room new counts bits number
+      → Answered size mode places new counts bits
+  answered new counts bits number c =
+      let a = each-answered new counts bits number c in
       let l : length new ≡ 2 * size = a .as-long ∙ arrived .long in
       let j : new ≡ joined (piece (wordLength size) new) (words size) =
       sym (take-all (total (wordLength size) (words size)) new (omega (arith, lengths size (range .size-from))))
@@ -217,9 +222,10 @@ module _ (size mode : ℕ) (places old room : List ℕ) (range : InRange size mo
         below =
             subst (λ (x : List ℕ). Below 16 x) (sym j)
             (below-joined 16 (piece (wordLength size) new) (words size) (omega arith)
-            (λ i k. corrected-below new counts a i k (ltb (getD counts i 0) mode) refl));
+            (λ i k. corrected-below new counts bits a i k (ltb (getD counts i 0) mode) refl));
         many = a .as-many ∙ some;
-        each = λ i k. each-corrected new counts a i k;
+        many-bits = a .as-many-bits ∙ bits-some;
+        each = λ i k. each-corrected new counts bits a i k;
       }
 
 -- ---- the data of a word put where they belong
@@ -231,6 +237,12 @@ behind-front (suc c) m zero xs e = absurd (omega arith)
 behind-front (suc c) zero (suc n) [] e = refl
 behind-front (suc c) (suc m) (suc n) [] e = refl
 behind-front (suc c) m (suc n) (x ∷ xs) e = behind-front c m n xs (omega arith)
+
+-- one count more in a sum of counts
+one-more : (counts : List ℕ) {i sum count : ℕ} → sum ≡ total (λ j. getD counts j 0) i → count ≡ getD counts i 0
+    → sum + count ≡ total (λ j. getD counts j 0) (i + 1)
+one-more counts {i} s c =
+    ap₂ (λ (x y : ℕ). x + y) s c ∙ sym (total-next (λ j. getD counts j 0) i) ∙ ap (total (λ j. getD counts j 0)) (sym (add-one i))
 
 -- the data of word i, which starts at from of all, go to their room
 module _ {size mode i at n e from d : ℕ} {old all : List ℕ} (part : WordPart size mode i at n e old) (whole : SemiOctetsOf size mode all)
@@ -276,17 +288,15 @@ module _ {size mode i at n e from d : ℕ} {old all : List ℕ} (part : WordPart
     below-last : Below 16 last
     below-last = rw last-is (below-drop 16 (distance mode - 1) word (below-piece 16 (wordLength size) all i (omega arith) (whole .below)))
 
-    pub gathered-next : {counts : List ℕ} {sum count : ℕ} → GatheredTo size mode all counts old i sum → count ≡ getD counts i 0
-        → count < mode
-        → GatheredTo size mode all counts (putMid at (e - at) old last) (i + 1) (sum + count)
-    gathered-next {counts} {sum} {count} g c l = record {
+    pub gathered-next : {counts bits : List ℕ} {sum bit-sum count bit-count : ℕ} → GatheredTo size mode all counts bits old i sum bit-sum
+        → count ≡ getD counts i 0 → bit-count ≡ getD bits i 0 → count < mode
+        → GatheredTo size mode all counts bits (putMid at (e - at) old last) (i + 1) (sum + count) (bit-sum + bit-count)
+    gathered-next {counts} {bits} {sum} {bit-sum} {count} {bit-count} g c b l = record {
       given = new-data part last last-long below-last;
       each = λ j h. each-next j h (eqb j i) refl;
       few = λ j h. few-next j h (eqb j i) refl;
-      counted =
-          ap₂ (λ (x y : ℕ). x + y) (g .counted) c
-          ∙ sym (total-next (λ j. getD counts j 0) i)
-          ∙ ap (total (λ j. getD counts j 0)) (sym (add-one i));
+      counted = one-more counts (g .counted) c;
+      bits-counted = one-more bits (g .bits-counted) b;
     }
       where
         each-next : (j : ℕ) → j < i + 1 → (b : Bool) → eqb j i ≡ b
@@ -301,12 +311,14 @@ module _ {size mode i at n e from d : ℕ} {old all : List ℕ} (part : WordPart
         few-next j h true t = rw (eqb-true j i t) (rw c at l)
         few-next j h false t = let d : (j ≡ i → ⊥) = eqb-false j i t in g .few j (omega arith)
 
-pub gathered-first : (size mode : ℕ) (all counts message : List ℕ) → Data size mode message → GatheredTo size mode all counts message 0 0
-gathered-first size mode all counts message d = record {
+pub gathered-first : (size mode : ℕ) (all counts bits message : List ℕ) → Data size mode message
+    → GatheredTo size mode all counts bits message 0 0 0
+gathered-first size mode all counts bits message d = record {
   given = d;
   each = λ j h. absurd (omega arith);
   few = λ j h. absurd (omega arith);
   counted = sym (total-none (λ j. getD counts j 0));
+  bits-counted = sym (total-none (λ j. getD bits j 0));
 }
 
 -- ---- the slot's answer
@@ -327,29 +339,32 @@ code-of size mode i slot message word r l n h =
     (record { semi-octets = n .semi-octets; long = long ∙ omega (arith, long); holds = refl; valid = n .valid }))
 
 -- .. of the slot that was unpacked
-each-of : (size mode : ℕ) (slot places all counts : List ℕ) → InRange size mode → Answered size mode places all counts
+each-of : (size mode : ℕ) (slot places all counts bits : List ℕ) → InRange size mode → Answered size mode places all counts bits
     → length slot ≡ size → places ≡ unpacked slot
-    → (j : ℕ) → j < words size → WordCorrected mode (wordIn size mode slot j) (piece (wordLength size) all j) (getD counts j 0)
-each-of size mode slot places all counts r a e p j l =
-    subst (λ (w : List ℕ). WordCorrected mode w (piece (wordLength size) all j) (getD counts j 0))
+    → (j : ℕ) → j < words size
+    → WordCorrected mode (wordIn size mode slot j) (piece (wordLength size) all j) (getD counts j 0) (getD bits j 0)
+each-of size mode slot places all counts bits r a e p j l =
+    subst (λ (w : List ℕ). WordCorrected mode w (piece (wordLength size) all j) (getD counts j 0) (getD bits j 0))
     (word-from size mode slot places j (r .size-from) e p) (a .each j l)
 
-pub repaired : (size mode : ℕ) (places all counts message : List ℕ) (r : Outcome) → InRange size mode → Answered size mode places all counts
-    → IsGathered size mode all counts message r → IsRepairFrom size mode places message r
-repaired size mode places all counts message (Repaired n) r a g slot e p =
-    let each = each-of size mode slot places all counts r a e p in
+pub repaired : (size mode : ℕ) (places all counts bits message : List ℕ) (r : Outcome) → InRange size mode
+    → Answered size mode places all counts bits → IsGathered size mode all counts bits message r → IsRepairFrom size mode places message r
+repaired size mode places all counts bits message (Repaired n b) r a g slot e p =
+    let each = each-of size mode slot places all counts bits r a e p in
     let near : (j : ℕ) → j < words size → Near mode (wordIn size mode slot j) (piece (wordLength size) all j) =
     λ j l. each j l .found (g .few j l) in
     let code : (j : ℕ) → j < words size → codeWord size mode message j ≡ piece (wordLength size) all j =
     λ j l. code-of size mode j slot message (piece (wordLength size) all j) r l (near j l) (g .each j l) in
+    let over = λ (f : ℕ → ℕ → ℕ) (cs : List ℕ)
+    (c : (j : ℕ) → j < words size → getD cs j 0 ≡ changesBy f (wordIn size mode slot j) (piece (wordLength size) all j)).
+    total-same (λ j. getD cs j 0) (λ j. changesBy f (wordIn size mode slot j) (codeWord size mode message j)) (words size)
+    (λ j l. c j l ∙ ap (changesBy f (wordIn size mode slot j)) (sym (code j l))) in
     record {
       given = g .given;
       near = λ j l. rw (code j l) (near j l);
-      counted =
-          g .counted
-          ∙ total-same (λ j. getD counts j 0) (λ j. apart (wordIn size mode slot j) (codeWord size mode message j)) (words size)
-          (λ j l. each j l .counted (g .few j l) ∙ ap (apart (wordIn size mode slot j)) (sym (code j l)));
+      counted = g .counted ∙ over semiOctetChanged counts (λ j l. each j l .counted (g .few j l));
+      bits-counted = g .bits-counted ∙ over bitsChanged bits (λ j l. each j l .bits-counted (g .few j l));
     }
-repaired size mode places all counts message Beyond r a g slot e p =
-    let each = each-of size mode slot places all counts r a e p in
+repaired size mode places all counts bits message Beyond r a g slot e p =
+    let each = each-of size mode slot places all counts bits r a e p in
     record { word = g .word; inside = g .inside; none = each (g .word) (g .inside) .none (g .none) }

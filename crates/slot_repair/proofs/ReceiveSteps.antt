@@ -9,18 +9,18 @@ use Rattle.laws.specs.Tab.{total}
 use Rattle.laws.proofs.Spread.{total-nil}
 use Rattle.laws.proofs.Tab.{tab-is, total-same}
 use Rattle.laws.proofs.Fill.{Filled, filled-last}
-use Rattle.code_word_laws.specs.Word.{apart}
+use Rattle.code_word_laws.specs.Word.{semiOctetChanged, bitsChanged, changesBy}
+use Rattle.code_word_laws.proofs.Changes.{changes-self, semi-octet-same, bits-same}
 use Rattle.slot_laws.specs.Sizes.{InRange, words, wordLength}
 use Rattle.slot_laws.specs.Words.{signature}
 use Rattle.slot_laws.specs.Order.{Data}
 use Rattle.slot_laws.specs.Slot.{codeWord, slotWith, wordIn}
-use Rattle.slot_laws.specs.Changes.{changes}
+use Rattle.slot_laws.specs.Changes.{slotChanges, changes, bitChanges}
 use Rattle.slot_laws.specs.Corrected.{Corrected}
 use Rattle.slot_clean.specs.Inner.{unpacked, wordFrom, AllClean}
-use Rattle.slot_repair.specs.Inner.{MendedTo}
-use Rattle.slot_laws.proofs.Places.{changes-words}
+use Rattle.slot_repair.specs.Inner.{changesTo, MendedTo}
+use Rattle.slot_laws.proofs.Places.{Shifted, semi-octets-shifted, bits-shifted, changes-words}
 use Rattle.slot_laws.proofs.Slot.{word-slot, bytes-with, code-word}
-use Rattle.code_word_laws.proofs.Coded.{apart-front}
 use Rattle.slot_clean.proofs.Unpacking.{length-from, word-from}
 
 -- ---- a word received
@@ -33,37 +33,39 @@ arrived-last size mode i n k places w e l f =
 
 -- ---- all words corrected
 
--- the slot with the data that were corrected is the corrected one, and the count is that of its changes
-module _ (size mode : ℕ) (slot message : List ℕ) (count : ℕ) (range : InRange size mode)
-    (corrected : MendedTo size mode slot message (words size) count) where
+-- the slot with the data that were corrected is the corrected one, and the counts are those of its changes
+module _ (size mode : ℕ) (slot message : List ℕ) (count bits : ℕ) (range : InRange size mode)
+    (corrected : MendedTo size mode slot message (words size) count bits) where
   pub corrected-slot : Corrected size mode slot (slotWith size mode message)
   corrected-slot = record {
     bytes = bytes-with size mode message range (corrected .given);
     near = λ i l. rw (word-slot size mode message range (corrected .given) i l) (corrected .near i l);
   }
 
-  changed-words : changes size slot (slotWith size mode message)
-      ≡ total (λ j. apart (wordIn size mode slot j) (wordIn size mode (slotWith size mode message) j)) (words size)
+  -- what is counted over the words is counted over the slot
+  over-slot : (f : ℕ → ℕ → ℕ) → Shifted f
+      → changesTo f size mode slot message (words size) ≡ slotChanges f size slot (slotWith size mode message)
   unfolding wordIn
-  changed-words = changes-words size (signature mode) slot (slotWith size mode message) (range .size-from)
+  over-slot f shifted =
+      total-same _ (λ j. changesBy f (wordIn size mode slot j) (wordIn size mode (slotWith size mode message) j)) (words size)
+      (λ j l. ap (changesBy f (wordIn size mode slot j)) (sym (word-slot size mode message range (corrected .given) j l)))
+      ∙ sym (changes-words f shifted size (signature mode) slot (slotWith size mode message) (range .size-from))
 
   pub count-changes : count ≡ changes size slot (slotWith size mode message)
-  count-changes =
-      corrected .counted
-      ∙ total-same (λ j. apart (wordIn size mode slot j) (codeWord size mode message j))
-      (λ j. apart (wordIn size mode slot j) (wordIn size mode (slotWith size mode message) j)) (words size)
-      (λ j l. ap (apart (wordIn size mode slot j)) (sym (word-slot size mode message range (corrected .given) j l)))
-      ∙ sym changed-words
+  count-changes = corrected .counted ∙ over-slot semiOctetChanged semi-octets-shifted
+
+  pub bits-changes : bits ≡ bitChanges size slot (slotWith size mode message)
+  bits-changes = corrected .bits-counted ∙ over-slot bitsChanged bits-shifted
 
 -- ---- the slot's answer
 
-same-apart : (v w : List ℕ) → v ≡ w → apart v w ≡ 0
-same-apart v w e = let h = apart-front 0 v w e in omega arith
+same-words : (f : ℕ → ℕ → ℕ) → ((x : ℕ) → f x x ≡ 0) → (v w : List ℕ) → v ≡ w → changesBy f v w ≡ 0
+same-words f z v w e = ap (λ (x : List ℕ). changesBy f x w) e ∙ changes-self f z w
 
 -- a slot of clean words is its own correction
 pub clean-slot : (size mode : ℕ) (slot places message : List ℕ) → InRange size mode → length slot ≡ size → places ≡ unpacked slot
     → Data size mode message
-    → AllClean size mode places message (words size) → MendedTo size mode slot message (words size) 0
+    → AllClean size mode places message (words size) → MendedTo size mode slot message (words size) 0 0
 clean-slot size mode slot places message r l p d a = record {
   given = d;
   near = λ j h.
@@ -73,12 +75,16 @@ clean-slot size mode slot places message r l p d a = record {
         semi-octets = c .semi-octets;
         long = ap (λ (x : List ℕ). length x) (sym e);
         valid = c .valid;
-        near = let z = same-apart (wordIn size mode slot j) (codeWord size mode message j) e in omega (arith, r .mode-from);
+        near = omega (arith, r .mode-from, same-words semiOctetChanged semi-octet-same _ _ e);
       };
-  counted =
-      sym (total-nil (λ j. apart (wordIn size mode slot j) (codeWord size mode message j)) (words size)
-      (λ j h. same-apart (wordIn size mode slot j) (codeWord size mode message j) (same j h)));
+  counted = none-to semiOctetChanged semi-octet-same;
+  bits-counted = none-to bitsChanged bits-same;
 }
   where
     same : (j : ℕ) → j < words size → wordIn size mode slot j ≡ codeWord size mode message j
     same j h = sym (word-from size mode slot places j (r .size-from) l p) ∙ sym (a j h)
+
+    none-to : (f : ℕ → ℕ → ℕ) → ((x : ℕ) → f x x ≡ 0) → 0 ≡ changesTo f size mode slot message (words size)
+    none-to f z =
+        sym (total-nil (λ j. changesBy f (wordIn size mode slot j) (codeWord size mode message j)) (words size)
+        (λ j h. same-words f z (wordIn size mode slot j) (codeWord size mode message j) (same j h)))

@@ -5,7 +5,7 @@ use mathlib.Core.List.{List}
 use Prim.Native.Nat.{ℕ, _-_, _*_, _≤_, _<_}
 use lib.ListN.{length, getD, drop}
 use Rattle.laws.specs.Tab.{total, Below}
-use Rattle.code_word_laws.specs.Word.{distance, apart}
+use Rattle.code_word_laws.specs.Word.{distance, semiOctetChanged, bitsChanged, changesBy}
 use Rattle.code_word_laws.specs.Correct.{Near}
 use Rattle.slot_laws.specs.Sizes.{words, wordLength}
 use Rattle.slot_laws.specs.Words.{piece, dataWord}
@@ -16,17 +16,19 @@ use Rattle.slot_repair.specs.declared.Outcome.{Outcome}
 use Rattle.slot_repair.specs.declared.Outcome.the-variants.{Repaired, Beyond}
 use Rattle.slot_clean.specs.Inner.{unpacked, wordFrom}
 
--- room for a count a word, and for the data
-pub record Rooms (size mode : ℕ) (counts message : List ℕ) : Type 0 where
+-- room for both counts of each word, and for the data
+pub record Rooms (size mode : ℕ) (counts bits message : List ℕ) : Type 0 where
   pub many : length counts ≡ words size
+  pub many-bits : length bits ≡ words size
   pub given : Data size mode message
 
--- the first n words have a count, the sum of them is the count, and the data of these words stand where they belong
-pub record GatheredTo (size mode : ℕ) (all counts message : List ℕ) (n count : ℕ) : Type 0 where
+-- the first n words have counts, the sums of them are the counts, and the data of these words stand where they belong
+pub record GatheredTo (size mode : ℕ) (all counts bits message : List ℕ) (n count bit-count : ℕ) : Type 0 where
   pub given : Data size mode message
   pub each : (j : ℕ) → j < n → dataWord size mode message j ≡ drop (distance mode - 1) (piece (wordLength size) all j)
   pub few : (j : ℕ) → j < n → getD counts j 0 < mode
   pub counted : count ≡ total (λ j. getD counts j 0) n
+  pub bits-counted : bit-count ≡ total (λ j. getD bits j 0) n
 
 -- some word has no count
 pub record SomeNone (size mode : ℕ) (counts : List ℕ) : Type 0 where
@@ -34,18 +36,23 @@ pub record SomeNone (size mode : ℕ) (counts : List ℕ) : Type 0 where
   pub inside : word < words size
   pub none : mode ≤ getD counts word 0
 
-abbrev pub IsGathered : ℕ → ℕ → List ℕ → List ℕ → List ℕ → Outcome → Type 0
-IsGathered size mode all counts message (Repaired n) = GatheredTo size mode all counts message (words size) n
-IsGathered size mode all counts message Beyond = SomeNone size mode counts
+abbrev pub IsGathered : ℕ → ℕ → List ℕ → List ℕ → List ℕ → List ℕ → Outcome → Type 0
+IsGathered size mode all counts bits message (Repaired n b) = GatheredTo size mode all counts bits message (words size) n b
+IsGathered size mode all counts bits message Beyond = SomeNone size mode counts
+
+-- what f counts of the changes in the first n words, as received and over the data
+abbrev pub changesTo : (ℕ → ℕ → ℕ) → ℕ → ℕ → List ℕ → List ℕ → ℕ → ℕ
+changesTo f size mode slot message n = total (λ j. changesBy f (wordIn size mode slot j) (codeWord size mode message j)) n
 
 -- the first n words were corrected, and the data hold them
-pub record MendedTo (size mode : ℕ) (slot message : List ℕ) (n count : ℕ) : Type 0 where
+pub record MendedTo (size mode : ℕ) (slot message : List ℕ) (n count bits : ℕ) : Type 0 where
   pub given : Data size mode message
   pub near : (j : ℕ) → j < n → Near mode (wordIn size mode slot j) (codeWord size mode message j)
-  pub counted : count ≡ total (λ j. apart (wordIn size mode slot j) (codeWord size mode message j)) n
+  pub counted : count ≡ changesTo semiOctetChanged size mode slot message n
+  pub bits-counted : bits ≡ changesTo bitsChanged size mode slot message n
 
 abbrev pub IsRepair : ℕ → ℕ → List ℕ → List ℕ → Outcome → Type 0
-IsRepair size mode slot message (Repaired n) = MendedTo size mode slot message (words size) n
+IsRepair size mode slot message (Repaired n b) = MendedTo size mode slot message (words size) n b
 IsRepair size mode slot message Beyond = SomeBeyond size mode slot
 
 -- every word as received, one after the other

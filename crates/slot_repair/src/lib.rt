@@ -10,9 +10,9 @@ ghost use Rattle.slot_interleaving.specs.Inner.{AtWord, SlotAndData};
 ghost use Rattle.slot_clean.specs.Inner.{wordFrom, SemiOctetsOf};
 ghost use Rattle.slot_repair.specs.Inner.{Rooms, AllArrived, IsGathered, IsRepair, IsRepairFrom};
 
-// Whether every word was corrected: the count of all changes, or a word beyond repair.
+// Whether every word was corrected: the counts of all changed semi-octets and bits, or a word beyond repair.
 pub enum Outcome {
-    Repaired(u16),
+    Repaired(u16, u16),
     Beyond,
 }
 
@@ -49,15 +49,23 @@ fn receive_all(size: usize, mode: usize, places: &[u8], all: &mut [u8])
 }
 
 // The data of every word put where they belong, and the counts added; or a word has no count.
-fn gather(size: usize, mode: usize, all: &[u8], counts: &[u8], message: &mut [u8]) -> Outcome
+fn gather(
+    size: usize,
+    mode: usize,
+    all: &[u8],
+    counts: &[u8],
+    bits: &[u8],
+    message: &mut [u8],
+) -> Outcome
     requires { ⌜ SemiOctetsOf size mode (now all) ⌝ }
-    requires { ⌜ Rooms size mode (now counts) (now message) ⌝ }
-    ensures { λ r. ⌜ IsGathered size mode (now (all .entry)) (now (counts .entry)) (now (message .exit)) r ⌝ }
+    requires { ⌜ Rooms size mode (now counts) (now bits) (now message) ⌝ }
+    ensures { λ r. ⌜ IsGathered size mode (now (all .entry)) (now (counts .entry)) (now (bits .entry)) (now (message .exit)) r ⌝ }
 {
     let checks = code_word_settings::distance(mode) - 1;
     let mut from: usize = 0;
     let mut at: usize = 0;
     let mut sum: u16 = 0;
+    let mut bit_sum: u16 = 0;
     let mut i: usize = 0;
     while i < counts.len() {
         let n = counts[i];
@@ -68,30 +76,32 @@ fn gather(size: usize, mode: usize, all: &[u8], counts: &[u8], message: &mut [u8
         let e = at + (long - checks);
         slot_interleaving::copy_part(all, from + checks, &mut message[at..e]);
         sum = sum + n as u16;
+        bit_sum = bit_sum + bits[i] as u16;
         from = from + long;
         at = e;
         i = i + 1;
     }
-    Outcome::Repaired(sum)
+    Outcome::Repaired(sum, bit_sum)
 }
 
-// Every word corrected, with room lent for the words and for a count a word.
+// Every word corrected, with room lent for the words and for the counts of each.
 fn correct_with(
     size: usize,
     mode: usize,
     places: &[u8],
     all: &mut [u8],
     counts: &mut [u8],
+    bits: &mut [u8],
     message: &mut [u8],
 ) -> Outcome
     requires { ⌜ SemiOctetsOf size mode (now places) ⌝ }
-    requires { ⌜ Rooms size mode (now counts) (now message) ⌝ }
+    requires { ⌜ Rooms size mode (now counts) (now bits) (now message) ⌝ }
     requires { ⌜ length (now all) ≡ 2 * size ⌝ }
     ensures { λ r. ⌜ IsRepairFrom size mode (now (places .entry)) (now (message .exit)) r ⌝ }
 {
     receive_all(size, mode, places, all);
-    code_word::correct_each(all, mode as u32, counts);
-    gather(size, mode, all, counts, message)
+    code_word::correct_each(all, mode as u32, counts, bits);
+    gather(size, mode, all, counts, bits, message)
 }
 
 // Every word corrected.
@@ -103,12 +113,14 @@ fn repair(size: usize, mode: usize, places: &[u8], message: &mut [u8]) -> Outcom
     let count = slot_sizes::word_count(size);
     let mut all = [0u8; 800];
     let mut counts = [0u8; 54];
+    let mut bits = [0u8; 54];
     correct_with(
         size,
         mode,
         places,
         &mut all[..2 * size],
         &mut counts[..count],
+        &mut bits[..count],
         message,
     )
 }
@@ -121,7 +133,7 @@ pub fn correct_slot(size: usize, mode: usize, slot: &[u8], message: &mut [u8]) -
     let mut places = [0u8; 800];
     slot_clean::unpack(slot, &mut places[..2 * size]);
     if slot_clean::read_clean(size, mode, &places[..2 * size], message) {
-        return Outcome::Repaired(0);
+        return Outcome::Repaired(0, 0);
     }
     repair(size, mode, &places[..2 * size], message)
 }

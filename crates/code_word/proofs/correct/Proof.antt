@@ -47,15 +47,17 @@ correct-word-requires c κs =
 
 returns-3 : tie.Need-returns-3
 returns-3 c =
-    let m = c .before .before .before .correct-word in
-    let d = c .before .before .before .before .before .before .before in
-    is-none (begin d .args .mode) (begin d .args .word .now) (m .last .1 .0) (m .result) (fit d) (semi d) (m .ensures) (c .if3 .taken)
+    let m = c .before .before .before .before .correct-word in
+    let d = c .before .before .before .before .before .before .before .before in
+    is-none (begin d .args .mode) (begin d .args .word .now) (m .last .1 .0) (m .result .count) (m .result .bits)
+    (fit d) (semi d) (m .ensures) (c .if3 .taken)
 
 returns-4 : tie.Need-returns-4
 returns-4 c =
-    let m = c .before .before .before .correct-word in
-    let d = c .before .before .before .before .before .before .before in
-    is-corrected (begin d .args .mode) (begin d .args .word .now) (m .last .1 .0) (m .result) (fit d) (semi d) (m .ensures) (c .if3 .left)
+    let m = c .before .before .before .before .correct-word in
+    let d = c .before .before .before .before .before .before .before .before in
+    is-corrected (begin d .args .mode) (begin d .args .word .now) (m .last .1 .0) (m .result .count) (m .result .bits)
+    (fit d) (semi d) (m .ensures) (c .if3 .left)
 
 pub correct-spec : {M : Type 1} → statement M
 correct-spec =

@@ -1,11 +1,11 @@
 -- `code_word_corrector::correct_word` meets its contract. Assumes nothing.
 use mathlib.Core.List.{List}
 use mathlib.Core.Path.{_≡_, ap, _∙_}
-use Prim.Native.Nat.{ℕ}
+use Prim.Native.Nat.{ℕ, _/_, _%_}
 use native.Mathlib.Omega.{arith}
 use borrow.Author.Needs.{needs}
 use Rattle.code_word_laws.specs.Corrector.{takenOff}
-use Rattle.code_word_laws.specs.Word.{apart}
+use Rattle.code_word_laws.specs.Word.{apart, bitsApart}
 use Rattle.code_word_laws.proofs.Correcting.{
   taken-off-length,
   taken-off-semi-octets,
@@ -33,7 +33,7 @@ accepted-requires c κs =
     let m = g .before .before .before .before in
     let a = m .before .before .before .before .before .before .before in
     let p = a .pre in
-    let e : o .last .0 ≡ takenOff (a .args .word .now) (g .error-word .result) = o .ensures .0
+    let e : o .last .0 ≡ takenOff (a .args .word .now) (g .error-word .result) = o .ensures .word-is
     ∙ ap (λ (l : List ℕ). takenOff l (g .error-word .result)) (m .correct-one .ensures .kept (g .before .if2 .left)) in
     record {
       table = p .table;
@@ -42,6 +42,9 @@ accepted-requires c κs =
       short = rw e (omega (arith, taken-off-length (a .args .word .now) (g .error-word .result)));
       semi-octets = rw e (taken-off-semi-octets (a .args .word .now) _ (p .semi-octets));
     }
+
+cast-t22 : tie.Need-cast-t22
+cast-t22 c = record { fits = omega (arith, c .before .before .before .before .before .take-off .ensures .few) }
 
 returns-3 : tie.Need-returns-3
 returns-3 c =
@@ -52,9 +55,10 @@ returns-3 c =
     let p = a .pre in
     let k = m .correct-one .ensures .kept (g .before .if2 .left) in
     correct-word-accepted (a .args .most) (a .args .word .now) (p .most-to) (p .short) (p .semi-octets) (g .error-word .result)
-    (o .result) (o .last .0)
-    (o .ensures .0 ∙ ap (λ (l : List ℕ). takenOff l (g .error-word .result)) k)
-    (o .ensures .1 ∙ ap (λ (l : List ℕ). apart l (o .last .0)) k) (c .before .accepted .ensures) (c .if3 .taken)
+    (o .result % 16) (o .last .0)
+    (o .ensures .word-is ∙ ap (λ (l : List ℕ). takenOff l (g .error-word .result)) k)
+    (o .ensures .counted ∙ ap (λ (l : List ℕ). apart l (o .last .0)) k) (c .before .accepted .ensures) (o .result / 16)
+    (o .ensures .bits-counted ∙ ap (λ (l : List ℕ). bitsApart l (o .last .0)) k) (c .if3 .taken)
 
 returns-4 : tie.Need-returns-4
 returns-4 c =
@@ -67,16 +71,16 @@ returns-4 c =
     let a = s .before .before .before in
     let p = a .pre in
     let k = m .correct-one .ensures .kept (g .before .if2 .left) in
-    correct-word-refused (a .args .most) (a .args .word .now) (p .most-to) (p .short) (p .semi-octets) (g .error-word .result) (o .result)
-    (s .syndromes .result) _ (o .last .0) (z .last .0)
-    (o .ensures .0 ∙ ap (λ (l : List ℕ). takenOff l (g .error-word .result)) k)
-    (o .ensures .1 ∙ ap (λ (l : List ℕ). apart l (o .last .0)) k) (z .ensures .0)
-    (omega arith) (s .syndromes .ensures) (g .error-word .ensures) (d .before .accepted .ensures) (d .if3 .left)
+    correct-word-refused (a .args .most) (a .args .word .now) (p .most-to) (p .short) (p .semi-octets) (g .error-word .result)
+    (o .result % 16) (o .last .0)
+    (o .ensures .word-is ∙ ap (λ (l : List ℕ). takenOff l (g .error-word .result)) k)
+    (o .ensures .counted ∙ ap (λ (l : List ℕ). apart l (o .last .0)) k) (d .before .accepted .ensures) (s .syndromes .result) _
+    (z .last .0) (z .ensures .word-is) (omega arith) (s .syndromes .ensures) (g .error-word .ensures) (d .if3 .left)
 
 pub correct-word-spec : {M : Type 1} → statement M
 correct-word-spec =
     tie.close
     (tie.spec
     (λ c κs. search needs) (λ c κs. search needs) (λ c. search needs) returns (λ c κs. search needs)
-    (λ c. search needs) returns-2 (λ c κs. search needs) (λ c κs. search needs) accepted-requires
-    (λ c. search needs) returns-3 (λ c κs. search needs) (λ c. search needs) (λ c. search needs) returns-4)
+    (λ c. search needs) returns-2 (λ c κs. search needs) (λ c κs. search needs) (λ c. search needs) accepted-requires
+    cast-t22 (λ c. search needs) returns-3 (λ c κs. search needs) (λ c. search needs) (λ c. search needs) returns-4)
