@@ -27,7 +27,7 @@ use Rattle.slot_laws.specs.Words.{piece, dataWord}
 use Rattle.slot_laws.specs.Order.{Data}
 use Rattle.slot_laws.specs.Slot.{codeWord, wordIn}
 use Rattle.slot_clean.specs.Inner.{unpacked, wordFrom, SemiOctetsOf}
-use Rattle.slot_repair.specs.Inner.{AllArrived, GatheredTo, IsGathered, IsRepairFrom}
+use Rattle.slot_repair.specs.Inner.{AllArrived, GatheredTo, IsGathered, changesTo, IsRepairFrom}
 use Rattle.slot_repair.specs.declared.Outcome.{Outcome}
 use Rattle.slot_repair.specs.declared.Outcome.the-variants.{Repaired, Beyond}
 use Rattle.slot_laws.proofs.Sizes.{words-low, length-share, lengths, length-low, length-high, checks-fit}
@@ -239,9 +239,9 @@ behind-front (suc c) (suc m) (suc n) [] e = refl
 behind-front (suc c) m (suc n) (x ∷ xs) e = behind-front c m n xs (omega arith)
 
 -- one count more in a sum of counts
-one-more : (counts : List ℕ) {i sum count : ℕ} → sum ≡ total (λ j. getD counts j 0) i → count ≡ getD counts i 0
+one-more : (counts : List ℕ) (i : ℕ) {sum count : ℕ} → sum ≡ total (λ j. getD counts j 0) i → count ≡ getD counts i 0
     → sum + count ≡ total (λ j. getD counts j 0) (i + 1)
-one-more counts {i} s c =
+one-more counts i s c =
     ap₂ (λ (x y : ℕ). x + y) s c ∙ sym (total-next (λ j. getD counts j 0) i) ∙ ap (total (λ j. getD counts j 0)) (sym (add-one i))
 
 -- the data of word i, which starts at from of all, go to their room
@@ -295,8 +295,8 @@ module _ {size mode i at n e from d : ℕ} {old all : List ℕ} (part : WordPart
       given = new-data part last last-long below-last;
       each = λ j h. each-next j h (eqb j i) refl;
       few = λ j h. few-next j h (eqb j i) refl;
-      counted = one-more counts (g .counted) c;
-      bits-counted = one-more bits (g .bits-counted) b;
+      counted = one-more counts i (g .counted) c;
+      bits-counted = one-more bits i (g .bits-counted) b;
     }
       where
         each-next : (j : ℕ) → j < i + 1 → (b : Bool) → eqb j i ≡ b
@@ -347,6 +347,13 @@ each-of size mode slot places all counts bits r a e p j l =
     subst (λ (w : List ℕ). WordCorrected mode w (piece (wordLength size) all j) (getD counts j 0) (getD bits j 0))
     (word-from size mode slot places j (r .size-from) e p) (a .each j l)
 
+-- what is counted of the words as they are left is counted of the code words over the data
+counted-over : (size mode : ℕ) (slot message : List ℕ) (w : ℕ → List ℕ) → ((j : ℕ) → j < words size → codeWord size mode message j ≡ w j)
+    → (f : ℕ → ℕ → ℕ) (counts : List ℕ) → ((j : ℕ) → j < words size → getD counts j 0 ≡ changesBy f (wordIn size mode slot j) (w j))
+    → total (λ j. getD counts j 0) (words size) ≡ changesTo f size mode slot message (words size)
+counted-over size mode slot message w code f counts c =
+    total-same _ _ (words size) (λ j l. c j l ∙ ap (changesBy f (wordIn size mode slot j)) (sym (code j l)))
+
 pub repaired : (size mode : ℕ) (places all counts bits message : List ℕ) (r : Outcome) → InRange size mode
     → Answered size mode places all counts bits → IsGathered size mode all counts bits message r → IsRepairFrom size mode places message r
 repaired size mode places all counts bits message (Repaired n b) r a g slot e p =
@@ -355,10 +362,7 @@ repaired size mode places all counts bits message (Repaired n b) r a g slot e p 
     λ j l. each j l .found (g .few j l) in
     let code : (j : ℕ) → j < words size → codeWord size mode message j ≡ piece (wordLength size) all j =
     λ j l. code-of size mode j slot message (piece (wordLength size) all j) r l (near j l) (g .each j l) in
-    let over = λ (f : ℕ → ℕ → ℕ) (cs : List ℕ)
-    (c : (j : ℕ) → j < words size → getD cs j 0 ≡ changesBy f (wordIn size mode slot j) (piece (wordLength size) all j)).
-    total-same (λ j. getD cs j 0) (λ j. changesBy f (wordIn size mode slot j) (codeWord size mode message j)) (words size)
-    (λ j l. c j l ∙ ap (changesBy f (wordIn size mode slot j)) (sym (code j l))) in
+    let over = counted-over size mode slot message (piece (wordLength size) all) code in
     record {
       given = g .given;
       near = λ j l. rw (code j l) (near j l);

@@ -31,7 +31,7 @@ swap-request-requires c κs =
     let a = s .args in
     let m = c .before .before .before .before .before .before .correct-slot in
     let k = c .before .before .count .given in
-    let x : MendedTo (a .size) (a .mode) (a .slot .now) (m .last .1 .1 .1 .0) (words (a .size)) (k .0 .0) (k .0 .1) = rw (k .1) at (m .ensures) in
+    let x : MendedTo (a .size) (a .mode) (a .slot .now) (m .last .1 .1 .1 .0) (words (a .size)) (k .0 .0) (k .0 .1 .0) = rw (k .1) at (m .ensures) in
     (s .pre .range, x .given)
 
 cast-deliver : tie.Need-cast-deliver
@@ -44,7 +44,7 @@ deliver-requires c κs =
     let a = s .args in
     let m = h .before .before .before .before .before .before .before .correct-slot in
     let k = h .before .before .before .count .given in
-    let x : MendedTo (a .size) (a .mode) (a .slot .now) (m .last .1 .1 .1 .0) (words (a .size)) (k .0 .0) (k .0 .1) = rw (k .1) at (m .ensures) in
+    let x : MendedTo (a .size) (a .mode) (a .slot .now) (m .last .1 .1 .1 .0) (words (a .size)) (k .0 .0) (k .0 .1 .0) = rw (k .1) at (m .ensures) in
     let z = h .swap-request in
     let o = z .last .1 .1 .0 in
     let f = c .before .before .before .first-hash-size in (
@@ -63,7 +63,7 @@ returns-2 c =
     let a = s .args in
     let m = h .before .before .before .before .before .before .before .correct-slot in
     let k = h .before .before .before .count .given in
-    let x : MendedTo (a .size) (a .mode) (a .slot .now) (m .last .1 .1 .1 .0) (words (a .size)) (k .0 .0) (k .0 .1) = rw (k .1) at (m .ensures) in
+    let x : MendedTo (a .size) (a .mode) (a .slot .now) (m .last .1 .1 .1 .0) (words (a .size)) (k .0 .0) (k .0 .1 .0) = rw (k .1) at (m .ensures) in
     let z = h .swap-request in
     let o = z .last .1 .1 .0 in
     let b = h .before .before .before .before .before .before .before .before .before .before .before .shared-slice-known in
@@ -72,7 +72,7 @@ returns-2 c =
     let d = c .before .before .before .deliver in
     let n = d .last .1 .1 .1 .1 .0 in
     let y : IsDelivered (a .size) (a .mode) o (a .frame .now) n false = rw (not-true (d .result) (c .if1 .taken)) at (d .ensures) in
-    foreign-answer (a .size) (a .mode) (a .slot .now) (a .frame .now) n (m .last .1 .1 .1 .0) o (k .0 .0) (k .0 .1) t x (z .ensures) y
+    foreign-answer (a .size) (a .mode) (a .slot .now) (a .frame .now) n (m .last .1 .1 .1 .0) o (k .0 .0) (k .0 .1 .0) t x (z .ensures) y
 
 returns-3 : tie.Need-returns-3
 returns-3 c =
@@ -81,7 +81,7 @@ returns-3 c =
     let a = s .args in
     let m = h .before .before .before .before .before .before .before .correct-slot in
     let k = h .before .before .before .count .given in
-    let x : MendedTo (a .size) (a .mode) (a .slot .now) (m .last .1 .1 .1 .0) (words (a .size)) (k .0 .0) (k .0 .1) = rw (k .1) at (m .ensures) in
+    let x : MendedTo (a .size) (a .mode) (a .slot .now) (m .last .1 .1 .1 .0) (words (a .size)) (k .0 .0) (k .0 .1 .0) = rw (k .1) at (m .ensures) in
     let z = h .swap-request in
     let o = z .last .1 .1 .0 in
     let b = h .before .before .before .before .before .before .before .before .before .before .before .shared-slice-known in
@@ -91,7 +91,7 @@ returns-3 c =
     let n = d .last .1 .1 .1 .1 .0 in
     let f = c .before .before .before .before .before .before .before .first-hash-size in
     let y : IsDelivered (a .size) (a .mode) o (a .frame .now) n true = rw (not-false (d .result) (c .if1 .left)) at (d .ensures) in
-    accepted-answer (a .size) (a .mode) (a .slot .now) (a .frame .now) n (m .last .1 .1 .1 .0) o (k .0 .0) (k .0 .1) t x (z .ensures) _
+    accepted-answer (a .size) (a .mode) (a .slot .now) (a .frame .now) n (m .last .1 .1 .1 .0) o (k .0 .0) (k .0 .1 .0) t x (z .ensures) _
     (request-is (a .size) (f .result) o (f .ensures .0)) y
 
 pub judge-spec : {M : Type 1} → statement M
