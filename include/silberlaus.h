@@ -82,6 +82,7 @@ typedef struct {
   uint8_t number;
   uint8_t request;      /* EPMR, as sent */
   uint16_t semi_octets; /* in how many the received slot differs from the one sent; 0 is a clean slot */
+  uint16_t bits;        /* in how many bits it differs: 1 to 4 for each of these semi-octets, so at most 648 */
 } silberlaus_unprotected;
 
 typedef struct {

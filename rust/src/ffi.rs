@@ -10,6 +10,7 @@ pub struct Unprotected {
     pub number: u8,
     pub request: u8,
     pub semi_octets: u16,
+    pub bits: u16,
 }
 
 #[repr(C)]

@@ -17,11 +17,11 @@
 //! assert_eq!(frame_size(slot.len(), mode), Some(frame.len()));
 //! protect(mode, 1, &frame, &mut slot)?;
 //!
-//! slot[9] ^= 0x40;
+//! slot[9] ^= 0x40; // one bit
 //!
 //! let mut heard = [0; 53];
 //! let got = unprotect(mode, &slot, &mut heard)?;
-//! assert_eq!((heard, got.request, got.semi_octets), (frame, 1, 1));
+//! assert_eq!((heard, got.request, got.semi_octets, got.bits), (frame, 1, 1, 1));
 //!
 //! let mut night = [0; 1024];
 //! let mut used = record::new(&mut night)?;

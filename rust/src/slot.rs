@@ -9,8 +9,10 @@ use crate::ffi;
 pub struct Unprotected {
     /// The request, as sent.
     pub request: u8,
-    /// In how many semi-octets the received slot differs from the one sent.
+    /// In how many semi-octets the received slot differs from the one sent, 0 to 162.
     pub semi_octets: u16,
+    /// In how many bits it differs: 1 to 4 for each of these semi-octets, so at most 648.
+    pub bits: u16,
 }
 
 impl Unprotected {
@@ -79,11 +81,11 @@ pub fn protect(mode: u32, request: u32, frame: &[u8], slot: &mut [u8]) -> Result
 /// let sent = [0x5a; 20];
 /// let mut slot = [0; 40];
 /// protect(4, 3, &sent, &mut slot)?;
-/// slot[0] ^= 0xff; // two semi-octets, in two words
+/// slot[0] ^= 0xf1; // two semi-octets, in two words: one bit and four
 ///
 /// let mut frame = [0; 20];
 /// let got = unprotect(4, &slot, &mut frame)?;
-/// assert_eq!((frame, got.request, got.semi_octets), (sent, 3, 2));
+/// assert_eq!((frame, got.request, got.semi_octets, got.bits), (sent, 3, 2, 5));
 ///
 /// assert_eq!(unprotect(4, &[0x11; 40], &mut frame), Err(Refusal::BeyondRepair));
 /// assert_eq!(frame, sent, "a refusal leaves the frame as it was");
@@ -92,5 +94,5 @@ pub fn protect(mode: u32, request: u32, frame: &[u8], slot: &mut [u8]) -> Result
 pub fn unprotect(mode: u32, slot: &[u8], frame: &mut [u8]) -> Result<Unprotected, Refusal> {
     let answer = ffi::unprotect(slot.len(), mode, slot, frame);
     Refusal::of(answer.number, 0)?;
-    Ok(Unprotected { request: answer.request, semi_octets: answer.semi_octets })
+    Ok(Unprotected { request: answer.request, semi_octets: answer.semi_octets, bits: answer.bits })
 }

@@ -25,6 +25,7 @@ static const char *const kinds[KINDS] = {"protect", "unprotect clean", "unprotec
 /* ---- frames, and their slots as sent and as received, by mode; what the sides left */
 static size_t size, slots;
 static uint8_t frames[MODES][BYTES], sent[MODES][BYTES], received[MODES][BYTES], left[SIDES][LOTS][BYTES];
+static uint16_t changed_bits[MODES][MOST_SLOTS];
 static slot_answer answers[SIDES][LOTS][MOST_SLOTS];
 
 static uint32_t mode_of(unsigned lot)
@@ -40,8 +41,9 @@ static void fill(uint32_t mode)
         random_bytes(frame, frame_size);
         reference_protect(size, mode, n % 4, frame, frame_size, slot, size);
         memcpy(got, slot, size);
+        changed_bits[mode - 2][n] = 0;
         for (size_t i = 0; i < reference_words(size); i++)
-            damage_word(size, i, mode - 1, got);
+            changed_bits[mode - 2][n] += damage_word(size, i, mode - 1, ANY_BITS, got);
     }
 }
 
@@ -73,7 +75,7 @@ static size_t pass(unsigned lot, unsigned side)
     return slots;
 }
 
-/* Each side left the slot, or the frame with its request and the number of changes. */
+/* Each side left the slot, or the frame with its request and the number of changes in semi-octets and in bits. */
 static void compare(unsigned lot)
 {
     uint32_t mode = mode_of(lot), kind = lot % KINDS;
@@ -84,6 +86,7 @@ static void compare(unsigned lot)
             slot_answer a = answers[side][lot][n];
             const uint8_t *wanted = (kind == PROTECT ? sent : frames)[mode - 2] + n * size;
             if (a.number != 0 || a.request != (kind == PROTECT ? 0 : n % 4) || a.semi_octets != changes
+                || a.bits != (kind == DAMAGED ? changed_bits[mode - 2][n] : 0)
                 || memcmp(&left[side][lot][n * size], wanted, length) != 0)
                 fails("a slot or a frame is not what the reference has");
         }

@@ -15,12 +15,12 @@ enum { LENGTH = 15, SLOT_400 = 54, SLOT_40 = 6, WORDS = SLOT_400 * 76, RUNS = 30
 
 typedef struct {
     uint8_t words[WORDS * LENGTH];
-    uint8_t counts[WORDS];
+    uint8_t counts[WORDS], bits[WORDS];
 } lot;
 
 typedef uint8_t make_call(uint8_t *, size_t, uint32_t);
 typedef word_answer correct_call(uint8_t *, size_t, uint32_t);
-typedef uint8_t each_call(uint8_t *, size_t, uint32_t, uint8_t *, size_t);
+typedef uint8_t each_call(uint8_t *, size_t, uint32_t, uint8_t *, size_t, uint8_t *, size_t);
 
 /* The general C, the C in closed form, the archive. */
 static make_call *const makers[SIDES] = {hand_make, hand_make, word_make};
@@ -41,13 +41,14 @@ static void alone(lot *l, uint32_t mode, unsigned side)
     for (size_t i = 0; i < WORDS; i++) {
         word_answer a = correctors[side](l->words + i * LENGTH, LENGTH, mode);
         l->counts[i] = a.number == 0 ? a.count : (uint8_t)mode;
+        l->bits[i] = a.bits;
     }
 }
 
 static void in_batches(lot *l, uint32_t mode, unsigned side, size_t batch)
 {
     for (size_t i = 0; i < WORDS; i += batch)
-        if (eachers[side](l->words + i * LENGTH, batch * LENGTH, mode, l->counts + i, batch) != 0)
+        if (eachers[side](l->words + i * LENGTH, batch * LENGTH, mode, l->counts + i, batch, l->bits + i, batch) != 0)
             abort();
 }
 

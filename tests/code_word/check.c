@@ -1,5 +1,5 @@
-/* Runs the compiled crate code_word (word_calls.h) against what search.c says is right: answers, counts, the words left,
-   and the bytes around every buffer that is lent.
+/* Runs the compiled crate code_word (word_calls.h) against what search.c says is right: answers, counts of semi-octets and
+   of bits, the words left, and the bytes around every buffer that is lent.
 
      check [SEED [SYNDROMES]]    SYNDROMES: how many of mode 4's 16,777,216 are tried at each length (100,000)
 
@@ -28,16 +28,17 @@ static void show(const char *what, const uint8_t *bytes, size_t length)
     said(printf("\n"));
 }
 
-/* Counts a case, and shows the first wrong ones of a group. */
-static void judge(int right, const char *call, uint32_t mode, const uint8_t *lent, const uint8_t *left,
-                  const uint8_t *wanted, size_t length)
+/* Counts a case, and shows the first wrong ones of a group; whether it was shown. */
+static int judge(int right, const char *call, uint32_t mode, const uint8_t *lent, const uint8_t *left,
+                 const uint8_t *wanted, size_t length)
 {
     if (!case_shown(right))
-        return;
+        return 0;
     said(printf("  WRONG: %s, mode %" PRIu32 ", length %zu\n", call, mode, length));
     show("lent  ", lent, length);
     show("left  ", left, length);
     show("wanted", wanted, length);
+    return 1;
 }
 
 /* ---- what is right */
@@ -66,16 +67,28 @@ static uint8_t make_wanted(uint8_t *word, size_t length, uint32_t mode)
     return 0;
 }
 
+/* In how many bits two words differ. */
+static uint8_t differing_bits(const uint8_t *a, const uint8_t *b, size_t length)
+{
+    uint8_t bits = 0;
+    for (size_t k = 0; k < length; k++)
+        for (unsigned j = 0; j < 4; j++)
+            bits += (a[k] >> j & 1) != (b[k] >> j & 1);
+    return bits;
+}
+
 static word_answer correct_wanted(uint8_t *word, size_t length, uint32_t mode)
 {
     if (!fits(length, mode) || !semi_octets(word, length))
-        return (word_answer){1, 0};
+        return (word_answer){1, 0, 0};
+    uint8_t received[LONGEST];
     pattern found;
     if (!search_changes(search_syndrome(word, length, mode), length, mode, &found))
-        return (word_answer){3, 0};
+        return (word_answer){3, 0, 0};
+    memcpy(received, word, length);
     for (unsigned i = 0; i < found.count; i++)
         word[found.place[i]] ^= found.value[i];
-    return (word_answer){0, (uint8_t)found.count};
+    return (word_answer){0, (uint8_t)found.count, differing_bits(received, word, length)};
 }
 
 /* The length of word i, where words_len semi-octets are dealt out in turn to counts_len words. */
@@ -87,9 +100,10 @@ static size_t dealt(size_t words_len, size_t counts_len, size_t i)
     return length;
 }
 
-static uint8_t each_wanted(uint8_t *words, size_t words_len, uint32_t mode, uint8_t *counts, size_t counts_len)
+static uint8_t each_wanted(uint8_t *words, size_t words_len, uint32_t mode, uint8_t *counts, size_t counts_len,
+                           uint8_t *bits, size_t bits_len)
 {
-    if (counts_len == 0 || !semi_octets(words, words_len))
+    if (counts_len == 0 || bits_len != counts_len || !semi_octets(words, words_len))
         return 1;
     for (size_t i = 0; i < counts_len; i++)
         if (!fits(dealt(words_len, counts_len, i), mode))
@@ -97,6 +111,7 @@ static uint8_t each_wanted(uint8_t *words, size_t words_len, uint32_t mode, uint
     for (size_t i = 0, at = 0; i < counts_len; at += dealt(words_len, counts_len, i), i++) {
         word_answer a = correct_wanted(words + at, dealt(words_len, counts_len, i), mode);
         counts[i] = a.number == 0 ? a.count : (uint8_t)mode;
+        bits[i] = a.bits;
     }
     return 0;
 }
@@ -110,7 +125,7 @@ static int valid(const uint8_t *word, size_t length, uint32_t mode)
 }
 
 /* ---- one call with guarded buffers, beside what is right */
-static buffer lent_words, wanted_words, lent_counts, wanted_counts;
+static buffer lent_words, wanted_words, lent_counts, wanted_counts, lent_bits, wanted_bits;
 
 static void try_make(const uint8_t *from, size_t length, uint32_t mode)
 {
@@ -126,23 +141,34 @@ static void try_correct(const uint8_t *from, size_t length, uint32_t mode)
 {
     uint8_t *word = guarded(&lent_words, from, length), *wanted = guarded(&wanted_words, from, length);
     word_answer want = correct_wanted(wanted, length, mode), got = word_correct(word, length, mode);
-    int right = got.number == want.number && got.count == want.count && same(&lent_words, &wanted_words, length);
+    int right = got.number == want.number && got.count == want.count && got.bits == want.bits
+                && same(&lent_words, &wanted_words, length);
     if (want.number == 0)
         right = right && valid(word, length, mode);
-    judge(right, "word_correct", mode, from, word, wanted, length);
+    if (judge(right, "word_correct", mode, from, word, wanted, length))
+        said(printf("    number %u, count %u, bits %u; wanted %u, %u, %u\n", got.number, got.count, got.bits, want.number,
+                    want.count, want.bits));
 }
 
-static void try_each(const uint8_t *from, size_t words_len, uint32_t mode, size_t counts_len)
+static void try_each(const uint8_t *from, size_t words_len, uint32_t mode, size_t counts_len, size_t bits_len)
 {
-    static uint8_t before[ROOM];
-    for (size_t i = 0; i < counts_len; i++)
-        before[i] = (uint8_t)next();
+    static uint8_t before[ROOM], before_bits[ROOM];
+    random_bytes(before, counts_len);
+    random_bytes(before_bits, bits_len);
     uint8_t *words = guarded(&lent_words, from, words_len), *wanted = guarded(&wanted_words, from, words_len);
     uint8_t *counts = guarded(&lent_counts, before, counts_len), *want_counts = guarded(&wanted_counts, before, counts_len);
-    uint8_t want = each_wanted(wanted, words_len, mode, want_counts, counts_len);
-    uint8_t got = word_correct_each(words, words_len, mode, counts, counts_len);
-    int right = got == want && same(&lent_words, &wanted_words, words_len) && same(&lent_counts, &wanted_counts, counts_len);
-    judge(right, "word_correct_each", mode, from, words, wanted, words_len);
+    uint8_t *bits = guarded(&lent_bits, before_bits, bits_len), *want_bits = guarded(&wanted_bits, before_bits, bits_len);
+    uint8_t want = each_wanted(wanted, words_len, mode, want_counts, counts_len, want_bits, bits_len);
+    uint8_t got = word_correct_each(words, words_len, mode, counts, counts_len, bits, bits_len);
+    int right = got == want && same(&lent_words, &wanted_words, words_len) && same(&lent_counts, &wanted_counts, counts_len)
+                && same(&lent_bits, &wanted_bits, bits_len);
+    if (!judge(right, "word_correct_each", mode, from, words, wanted, words_len))
+        return;
+    said(printf("    number %u; wanted %u\n", got, want));
+    show("counts", counts, counts_len);
+    show("wanted", want_counts, counts_len);
+    show("bits  ", bits, bits_len);
+    show("wanted", want_bits, bits_len);
 }
 
 /* ---- words to try */
@@ -282,7 +308,7 @@ static void with_mode(const uint8_t *word, size_t length, uint32_t mode)
 {
     try_make(word, length, mode);
     try_correct(word, length, mode);
-    try_each(word, length, mode, 1);
+    try_each(word, length, mode, 1, 1);
 }
 
 static void settings(void)
@@ -307,8 +333,8 @@ static void settings(void)
     for (size_t m = 0; m < COUNT(modes); m++) {
         word_answer a = word_correct(NULL, 0, modes[m]);
         judge(word_make(NULL, 0, modes[m]) == 1, "word_make", modes[m], word, word, word, 0);
-        judge(a.number == 1 && a.count == 0, "word_correct", modes[m], word, word, word, 0);
-        judge(word_correct_each(NULL, 0, modes[m], NULL, 0) == 1, "word_correct_each", modes[m], word, word, word, 0);
+        judge(a.number == 1 && a.count == 0 && a.bits == 0, "word_correct", modes[m], word, word, word, 0);
+        judge(word_correct_each(NULL, 0, modes[m], NULL, 0, NULL, 0) == 1, "word_correct_each", modes[m], word, word, word, 0);
     }
     group_ends("all: no word at all");
 }
@@ -354,7 +380,7 @@ static void whole_slots(void)
             for (size_t count = 1; count <= 60; count++)
                 for (unsigned turn = 0; turn < 10; turn++) {
                     size_t longer = length < LONGEST && turn > 0 ? below((unsigned)count) : 0;
-                    try_each(words, mixed_words(words, length, longer, modes[m], count), modes[m], count);
+                    try_each(words, mixed_words(words, length, longer, modes[m], count), modes[m], count, count);
                 }
     group_ends("each: 1 to 60 words of one or two lengths, clean, changed and beyond repair, mixed");
     for (size_t m = 0; m < COUNT(modes); m++)
@@ -363,7 +389,7 @@ static void whole_slots(void)
                 for (size_t other = 0; other <= 10; other++)
                     for (size_t cut = 0; cut <= 2; cut++) {
                         size_t len = mixed_words(words, length, 0, modes[m], count);
-                        try_each(words, cut < len ? len - cut : len, modes[m], other);
+                        try_each(words, cut < len ? len - cut : len, modes[m], other, other);
                     }
     group_ends("each: any number of counts, so that words are too short or too long");
     for (size_t m = 0; m < COUNT(modes); m++)
@@ -372,9 +398,24 @@ static void whole_slots(void)
                 for (unsigned v = 16; v < 256; v += v == 16 ? 15 : 32) {
                     size_t len = mixed_words(words, length, 0, modes[m], 6);
                     words[at] = (uint8_t)v;
-                    try_each(words, len, modes[m], 6);
+                    try_each(words, len, modes[m], 6, 6);
                 }
     group_ends("each: an element above 15 at every place of six words");
+}
+
+/* Words that are all right, with any number of places for their bits; the longer ones are right in 8 or 16 bits. */
+static void places_for_bits(void)
+{
+    static uint8_t words[ROOM];
+    for (size_t m = 0; m < COUNT(modes); m++)
+        for (size_t count = 0; count <= 8; count++) {
+            size_t len = mixed_words(words, 13 + below(3), 0, modes[m], count);
+            for (size_t bits_len = 0; bits_len <= 10; bits_len++)
+                try_each(words, len, modes[m], count, bits_len);
+            try_each(words, len, modes[m], count, 256 + count);
+            try_each(words, len, modes[m], count, 65536 + count);
+        }
+    group_ends("each: as many places for bits as for counts, and other numbers of them");
 }
 
 int main(int argc, char **argv)
@@ -389,6 +430,7 @@ int main(int argc, char **argv)
     making();
     random_words();
     whole_slots();
+    places_for_bits();
     elements();
     syndromes(2, UINT32_MAX);
     syndromes(3, UINT32_MAX);

@@ -62,23 +62,21 @@ static inline uint8_t value_at(const uint8_t *s, const uint8_t *places, unsigned
     return over(s[2] ^ times(y ^ z, s[1]) ^ times(times(y, z), s[0]), times(x, times(x ^ y, x ^ z)));
 }
 
-uint8_t closed_change(uint8_t *word, size_t length, uint32_t mode, uint32_t syndrome)
+word_changes closed_change(uint8_t *word, size_t length, uint32_t mode, uint32_t syndrome)
 {
     uint8_t s[6], l[3], places[3], values[3];
     for (unsigned j = 0; j < 6; j++)
         s[j] = syndrome >> 4 * j & 15;
     unsigned v = locator(s, mode - 1, l);
     if (v == 0 || roots(l, v, length, places) < v)
-        return (uint8_t)mode;
+        return (word_changes){(uint8_t)mode, 0};
     for (unsigned i = 0; i < v; i++) {
         values[i] = value_at(s, places, v, i);
         syndrome ^= syndrome_row[places[i]][values[i]];
     }
     if ((syndrome & syndromes_of(mode)) != 0)
-        return (uint8_t)mode;
-    for (unsigned i = 0; i < v; i++)
-        word[places[i]] ^= values[i];
-    return (uint8_t)v;
+        return (word_changes){(uint8_t)mode, 0};
+    return make_changes(word, places, values, v);
 }
 
 word_answer closed_correct(uint8_t *word, size_t length, uint32_t mode)
@@ -86,7 +84,8 @@ word_answer closed_correct(uint8_t *word, size_t length, uint32_t mode)
     return correct_by(closed_change, word, length, mode);
 }
 
-uint8_t closed_correct_each(uint8_t *words, size_t words_len, uint32_t mode, uint8_t *counts, size_t counts_len)
+uint8_t closed_correct_each(uint8_t *words, size_t words_len, uint32_t mode, uint8_t *counts, size_t counts_len,
+                            uint8_t *bits, size_t bits_len)
 {
-    return correct_each_by(closed_change, words, words_len, mode, counts, counts_len);
+    return correct_each_by(closed_change, words, words_len, mode, counts, counts_len, bits, bits_len);
 }

@@ -55,7 +55,7 @@ static uint8_t change_at(const uint8_t *s, const uint8_t *l, unsigned degree, ui
     return below == 0 ? 0 : over(value(evaluator, degree, x), below);
 }
 
-static uint8_t change(uint8_t *word, size_t length, uint32_t mode, uint32_t syndrome)
+static word_changes change(uint8_t *word, size_t length, uint32_t mode, uint32_t syndrome)
 {
     uint8_t s[2 * MOST], l[TERMS], places[MOST], values[MOST];
     unsigned found = 0;
@@ -63,7 +63,7 @@ static uint8_t change(uint8_t *word, size_t length, uint32_t mode, uint32_t synd
         s[j] = syndrome >> 4 * j & 15;
     unsigned degree = locator(s, 2 * mode - 2, l);
     if (degree >= mode)
-        return (uint8_t)mode;
+        return (word_changes){(uint8_t)mode, 0};
     for (unsigned k = 0; k < length && found < degree; k++) {
         uint8_t x = exponent[15 - k];
         if (value(l, degree + 1, x) != 0)
@@ -73,10 +73,8 @@ static uint8_t change(uint8_t *word, size_t length, uint32_t mode, uint32_t synd
         places[found++] = (uint8_t)k;
     }
     if (found < degree || (syndrome & syndromes_of(mode)) != 0)
-        return (uint8_t)mode;
-    for (unsigned i = 0; i < found; i++)
-        word[places[i]] ^= values[i];
-    return (uint8_t)found;
+        return (word_changes){(uint8_t)mode, 0};
+    return make_changes(word, places, values, found);
 }
 
 word_answer general_correct(uint8_t *word, size_t length, uint32_t mode)
@@ -84,7 +82,8 @@ word_answer general_correct(uint8_t *word, size_t length, uint32_t mode)
     return correct_by(change, word, length, mode);
 }
 
-uint8_t general_correct_each(uint8_t *words, size_t words_len, uint32_t mode, uint8_t *counts, size_t counts_len)
+uint8_t general_correct_each(uint8_t *words, size_t words_len, uint32_t mode, uint8_t *counts, size_t counts_len,
+                             uint8_t *bits, size_t bits_len)
 {
-    return correct_each_by(change, words, words_len, mode, counts, counts_len);
+    return correct_each_by(change, words, words_len, mode, counts, counts_len, bits, bits_len);
 }

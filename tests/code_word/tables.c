@@ -3,6 +3,7 @@
 
 uint8_t exponent[2 * LOG_ZERO + 1], logarithm[16];
 uint32_t syndrome_row[15][16];
+uint8_t ones[16];
 
 void tables_prepare(void)
 {
@@ -14,6 +15,8 @@ void tables_prepare(void)
         x = (uint8_t)(x << 1 ^ (x >> 3) * 0x13);
     }
     logarithm[0] = LOG_ZERO;
+    for (unsigned v = 1; v < 16; v++)
+        ones[v] = (uint8_t)(ones[v / 2] + v % 2);
     for (unsigned k = 0; k < 15; k++)
         for (unsigned v = 1; v < 16; v++) {
             syndrome_row[k][v] = 0;

@@ -1,5 +1,5 @@
-/* The field's logarithms and each semi-octet's share of the syndromes, for the two hand-written correctors: closed.c
-   and general.c. Call tables_prepare once, before any of theirs. */
+/* The field's logarithms, each semi-octet's share of the syndromes and its ones, for the two hand-written correctors:
+   closed.c and general.c. Call tables_prepare once, before any of theirs. */
 #ifndef TABLES_H
 #define TABLES_H
 
@@ -12,6 +12,9 @@ extern uint8_t exponent[2 * LOG_ZERO + 1], logarithm[16];
 
 /* What semi-octet v at place k adds to the six syndromes, four bits each, S1 lowest. */
 extern uint32_t syndrome_row[15][16];
+
+/* The ones in a semi-octet. */
+extern uint8_t ones[16];
 
 void tables_prepare(void);
 

@@ -27,7 +27,8 @@ int guards_hold(const buffer *b);
 enum { SIZE = 80, MODE = 3, REQUEST = 2, FRAME_SIZE = 53, WORDS = 11, REPAIRABLE = 2 };
 extern uint8_t frame[FRAME_SIZE], slot[SIZE];
 
-/* Changes `changes` semi-octets of word i of a slot. */
+/* Changes `changes` semi-octets of word i of a slot, each in two bits. */
+enum { BITS_EACH = 2 };
 void damage(uint8_t *bytes, size_t size, size_t i, unsigned changes);
 
 /* A frame in hex, and the fields that are right for it; from the first refused one on they are refused. */

@@ -22,7 +22,8 @@ int main()
     silberlaus_frame f = silberlaus_read_frame(48, back.data(), back.size(), spectrum.data(), lines, residual.data(), lines);
     silberlaus_frame g = silberlaus_read_entry(record.data(), a.used, 0, 48, spectrum.data(), lines, residual.data(), lines);
     bool right = number == SILBERLAUS_ACCEPTED && u.number == SILBERLAUS_ACCEPTED && u.request == 1 && u.semi_octets == 1
-                 && back == frame && made == SILBERLAUS_ACCEPTED && a.number == SILBERLAUS_ACCEPTED && a.used == 351
+                 && u.bits == 1 && back == frame && made == SILBERLAUS_ACCEPTED
+                 && a.number == SILBERLAUS_ACCEPTED && a.used == 351
                  && silberlaus_record_entries(record.data(), a.used).entries == 1 && e.length == 343 && e.count == 1
                  && silberlaus_record_entry(record.data(), a.used, 1).number == SILBERLAUS_BAD_SETTING
                  && lines == spectrum.size() && f.number == g.number && f.cause == g.cause;

@@ -5,7 +5,7 @@
 
 #include "check.h"
 
-_Static_assert(sizeof(silberlaus_unprotected) == 4, "four bytes, one register");
+_Static_assert(sizeof(silberlaus_unprotected) == 6, "six bytes, one register");
 _Static_assert(sizeof(silberlaus_added) == 8, "eight bytes, one register");
 _Static_assert(sizeof(silberlaus_entries) == 8, "eight bytes, one register");
 _Static_assert(sizeof(silberlaus_entry) == 12, "twelve bytes, two registers");
@@ -35,17 +35,21 @@ static void fields_are(const void *answer, const field *fields, size_t count)
 
 #define ARE(answer, ...) fields_are(&(answer), (const field[]){__VA_ARGS__}, COUNT(((const field[]){__VA_ARGS__})))
 
+/* The largest slot with as many changes as can be repaired: the bits then take more than one byte. */
 static void unprotected(void)
 {
     typedef silberlaus_unprotected S;
-    uint8_t received[SIZE], room[FRAME_SIZE];
-    memcpy(received, slot, SIZE);
-    for (size_t i = 0; i < WORDS; i++)
-        damage(received, SIZE, i, REPAIRABLE);
-    registers r = raw_unprotect(SIZE, MODE, received, SIZE, room, FRAME_SIZE);
-    ARE(r, FIELD(S, number, 0), FIELD(S, request, REQUEST), FIELD(S, semi_octets, WORDS * REPAIRABLE));
-    r = raw_unprotect(SIZE, MODE, received, SIZE, room, 1);
-    ARE(r, FIELD(S, number, SILBERLAUS_BAD_LENGTH), FIELD(S, request, 0), FIELD(S, semi_octets, 0));
+    enum { LARGEST = SILBERLAUS_SLOT_MAX, STRONGEST = SILBERLAUS_MODE_MAX, MOST = SILBERLAUS_SEMI_OCTETS_MAX };
+    static const uint8_t zeros[SILBERLAUS_SLOT_FRAME_MAX];
+    uint8_t received[LARGEST], room[SILBERLAUS_SLOT_FRAME_MAX];
+    size_t length = silberlaus_frame_size(LARGEST, STRONGEST);
+    EXPECT(silberlaus_protect(LARGEST, STRONGEST, REQUEST, zeros, length, received, LARGEST) == SILBERLAUS_ACCEPTED);
+    for (size_t i = 0; i < SILBERLAUS_WORDS_MAX; i++)
+        damage(received, LARGEST, i, STRONGEST - 1);
+    registers r = raw_unprotect(LARGEST, STRONGEST, received, LARGEST, room, length);
+    ARE(r, FIELD(S, number, 0), FIELD(S, request, REQUEST), FIELD(S, semi_octets, MOST), FIELD(S, bits, BITS_EACH * MOST));
+    r = raw_unprotect(LARGEST, STRONGEST, received, LARGEST, room, 1);
+    ARE(r, FIELD(S, number, SILBERLAUS_BAD_LENGTH), FIELD(S, request, 0), FIELD(S, semi_octets, 0), FIELD(S, bits, 0));
 }
 
 static uint8_t record[SILBERLAUS_RECORD_MAX], frames[SILBERLAUS_FRAME_MAX];

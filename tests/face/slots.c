@@ -75,6 +75,7 @@ static void unprotect_to(call c, const uint8_t *received, silberlaus_unprotected
     EXPECT(got.number == want.number);
     EXPECT(got.request == want.request);
     EXPECT(got.semi_octets == want.semi_octets);
+    EXPECT(got.bits == want.bits);
     EXPECT(untouched(&in));
     EXPECT(want.number == SILBERLAUS_ACCEPTED ? holds(&out, frame) : untouched(&out));
 }
@@ -85,10 +86,12 @@ static void unprotect_accepts(void)
 {
     uint8_t received[SIZE];
     memcpy(received, slot, SIZE);
-    unprotect_to(right, received, (silberlaus_unprotected){SILBERLAUS_ACCEPTED, REQUEST, 0});
+    silberlaus_unprotected want = {SILBERLAUS_ACCEPTED, REQUEST, 0, 0};
+    unprotect_to(right, received, want);
     for (size_t i = 0; i < WORDS; i++) {
         damage(received, SIZE, i, REPAIRABLE);
-        silberlaus_unprotected want = {SILBERLAUS_ACCEPTED, REQUEST, (uint16_t)(REPAIRABLE * (i + 1))};
+        want.semi_octets += REPAIRABLE;
+        want.bits += BITS_EACH * REPAIRABLE;
         unprotect_to(right, received, want);
     }
 }
@@ -151,12 +154,12 @@ static void unprotect_refuses(void)
     memcpy(both, foreign, SIZE);
     EXPECT(make_hopeless(both));
     for (size_t k = 0; k < COUNT(unprotecting); k++) {
-        unprotect_to(unprotecting[k], clean, (silberlaus_unprotected){unprotecting[k].number, 0, 0});
-        unprotect_to(unprotecting[k], hopeless, (silberlaus_unprotected){unprotecting[k].number, 0, 0});
+        unprotect_to(unprotecting[k], clean, (silberlaus_unprotected){unprotecting[k].number, 0, 0, 0});
+        unprotect_to(unprotecting[k], hopeless, (silberlaus_unprotected){unprotecting[k].number, 0, 0, 0});
     }
-    unprotect_to(right, hopeless, (silberlaus_unprotected){SILBERLAUS_BEYOND_REPAIR, 0, 0});
-    unprotect_to(right, both, (silberlaus_unprotected){SILBERLAUS_BEYOND_REPAIR, 0, 0});
-    unprotect_to(right, foreign, (silberlaus_unprotected){SILBERLAUS_FOREIGN, 0, 0});
+    unprotect_to(right, hopeless, (silberlaus_unprotected){SILBERLAUS_BEYOND_REPAIR, 0, 0, 0});
+    unprotect_to(right, both, (silberlaus_unprotected){SILBERLAUS_BEYOND_REPAIR, 0, 0, 0});
+    unprotect_to(right, foreign, (silberlaus_unprotected){SILBERLAUS_FOREIGN, 0, 0, 0});
 }
 
 void slot_calls(void)

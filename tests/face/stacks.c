@@ -48,7 +48,7 @@ static void protect(void) { kept = silberlaus_protect(size, mode, 3, frames, sil
 static void unprotect(void)
 {
     silberlaus_unprotected a = silberlaus_unprotect(size, mode, sent, size, frames, silberlaus_frame_size(size, mode));
-    kept = (uint64_t)a.number + a.semi_octets;
+    kept = (uint64_t)a.number + a.semi_octets + a.bits;
 }
 
 static int32_t spectrum[SILBERLAUS_LINES_MAX];

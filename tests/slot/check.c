@@ -1,8 +1,8 @@
 /* Runs the compiled slots (include/silberlaus.h) and those of quick.c, with which their speed is compared, on the cases of
-   protect.txt and unprotect.txt and against reference.c: answers, slots, frames, and the bytes in and around every buffer
-   that is lent. A case counts once for each of the two.
+   protect.txt, unprotect.txt and unprotect_bits.txt and against reference.c: answers, slots, frames, and the bytes in and
+   around every buffer that is lent. A case counts once for each of the two.
 
-     check [SEED [FOLDER]]    FOLDER: where the two lists of cases stand (tests/slot)
+     check [SEED [FOLDER]]    FOLDER: where the lists of cases stand (tests/slot)
 
    A line for each group says how many cases it had. It ends with status 1 at the end of the first group with a wrong
    answer. */
@@ -35,8 +35,9 @@ static void judge(int right, const char *call, size_t size, uint32_t mode, slot_
 {
     if (!case_shown(right))
         return;
-    said(printf("  WRONG: %s, size %zu, mode %" PRIu32 ": number %u, request %u, count %u; wanted %u, %u, %u\n", call, size,
-                mode, got.number, got.request, got.semi_octets, want.number, want.request, want.semi_octets));
+    said(printf("  WRONG: %s, size %zu, mode %" PRIu32 ": number %u, request %u, count %u, bits %u; wanted %u, %u, %u, %u\n",
+                call, size, mode, got.number, got.request, got.semi_octets, got.bits, want.number, want.request,
+                want.semi_octets, want.bits));
 }
 
 /* ---- one call with guarded buffers */
@@ -67,8 +68,19 @@ static void protect_case(size_t size, uint32_t mode, uint32_t request, part fram
         uint8_t got = sides[side].protect(size, mode, request, from, frame.length, to, sent.length);
         int right = got == number && holds(&in, frame.bytes, frame.length)
                     && holds(&out, number == 0 ? slot : sent.bytes, sent.length);
-        judge(right, sides[side].protects, size, mode, (slot_answer){number, 0, 0}, (slot_answer){got, 0, 0});
+        judge(right, sides[side].protects, size, mode, (slot_answer){number, 0, 0, 0}, (slot_answer){got, 0, 0, 0});
     }
+}
+
+static int same_answer(slot_answer a, slot_answer b)
+{
+    return a.number == b.number && a.request == b.request && a.semi_octets == b.semi_octets && a.bits == b.bits;
+}
+
+/* 1 to 4 bits for each changed semi-octet, and no more than any slot can have. */
+static int counts_fit(slot_answer a)
+{
+    return a.semi_octets <= a.bits && a.bits <= 4 * a.semi_octets && a.bits <= 648;
 }
 
 /* Unprotecting: the answer wanted and, where its number is 0, the frame wanted. Else the lent frame has to stay. The
@@ -82,8 +94,7 @@ static slot_answer unprotect_case(size_t size, uint32_t mode, part received, par
         const uint8_t *from = lend(&in, received);
         uint8_t *to = (uint8_t *)lend(&out, frame);
         got = sides[side].unprotect(size, mode, from, received.length, to, frame.length);
-        int right = got.number == want.number && got.request == want.request && got.semi_octets == want.semi_octets
-                    && holds(&in, received.bytes, received.length)
+        int right = same_answer(got, want) && counts_fit(got) && holds(&in, received.bytes, received.length)
                     && holds(&out, want.number == 0 ? wanted_frame : frame.bytes, frame.length);
         judge(right, sides[side].unprotects, size, mode, want, got);
     }
@@ -158,7 +169,7 @@ static void protect_list(void)
         if (from_hex(frame_hex, frame) != reference_frame_size(size, mode) || from_hex(slot_hex, slot) != size)
             malformed("protect.txt");
         protects_to(size, mode, request, frame, slot);
-        unprotects_to(size, mode, slot, (slot_answer){0, (uint8_t)request, 0}, frame);
+        unprotects_to(size, mode, slot, (slot_answer){0, (uint8_t)request, 0, 0}, frame);
     }
     if (fields != EOF)
         malformed("protect.txt");
@@ -166,26 +177,36 @@ static void protect_list(void)
     group_ends("protect.txt: every line, and its slot unprotected");
 }
 
-static void unprotect_list(void)
+/* The bytes to lend for a frame: where a setting is out of range there is no right length, and a plausible one stands in. */
+static size_t lent_frame_size(size_t size, uint32_t mode)
 {
-    FILE *list = list_of("unprotect.txt");
+    size_t right = reference_frame_size(size, mode);
+    return right > 0 ? right : 32;
+}
+
+/* A slot has another length than its size exactly where the number is 2. */
+static void unprotect_list(const char *name, const char *group)
+{
+    FILE *list = list_of(name);
     size_t size;
     uint32_t mode;
     unsigned number, request, semi_octets, bits;
     char slot_hex[2 * ROOM], frame_hex[2 * ROOM];
-    uint8_t slot[ROOM], frame[ROOM];
+    uint8_t slot[ROOM], frame[ROOM], before[ROOM];
     int fields;
     while ((fields = fscanf(list, "%zu %" SCNu32 " %2047s %u %u %u %u %2047s", &size, &mode, slot_hex, &number, &request,
                             &semi_octets, &bits, frame_hex)) == 8) {
-        size_t frame_size = number == 0 ? reference_frame_size(size, mode) : 0;
-        if (from_hex(slot_hex, slot) != size || from_hex(frame_hex, frame) != frame_size)
-            malformed("unprotect.txt");
-        unprotects_to(size, mode, slot, (slot_answer){(uint8_t)number, (uint8_t)request, (uint16_t)semi_octets}, frame);
+        size_t slot_len = from_hex(slot_hex, slot), frame_len = lent_frame_size(size, mode);
+        if ((slot_len != size) != (number == 2) || from_hex(frame_hex, frame) != (number == 0 ? frame_len : 0))
+            malformed(name);
+        slot_answer want = {(uint8_t)number, (uint8_t)request, (uint16_t)semi_octets, (uint16_t)bits};
+        random_bytes(before, frame_len);
+        unprotect_case(size, mode, (part){slot, slot_len, 0}, (part){before, frame_len, 0}, want, frame);
     }
     if (fields != EOF)
-        malformed("unprotect.txt");
+        malformed(name);
     fclose(list);
-    group_ends("unprotect.txt: every line");
+    group_ends(group);
 }
 
 /* ---- sizes and refusals */
@@ -238,8 +259,8 @@ static void refusals_at(size_t size, uint32_t mode, unsigned slot_length, unsign
 {
     uint8_t slot[ROOM], frame[ROOM], made[ROOM];
     int fit = sizes_fit(size, mode), right_lengths = slot_length == 0 && frame_length == 0;
-    /* out of range there is no right length: a plausible one stands in */
-    size_t slot_size = size <= 600 && size > 0 ? size : 40, frame_size = fit ? reference_frame_size(size, mode) : 32;
+    /* for a size out of range a plausible length stands in, as for a frame */
+    size_t slot_size = size <= 600 && size > 0 ? size : 40, frame_size = lent_frame_size(size, mode);
     random_bytes(slot, ROOM);
     random_bytes(frame, ROOM);
     part slot_part = lent_part(slot, slot_size, slot_length), frame_part = lent_part(frame, frame_size, frame_length);
@@ -250,12 +271,12 @@ static void refusals_at(size_t size, uint32_t mode, unsigned slot_length, unsign
         protect_case(size, mode, requests[q], frame_part, slot_part, number, made);
     }
     if (!fit || !right_lengths) {
-        unprotect_case(size, mode, slot_part, frame_part, (slot_answer){fit ? 2 : 1, 0, 0}, NULL);
+        unprotect_case(size, mode, slot_part, frame_part, (slot_answer){fit ? 2 : 1, 0, 0, 0}, NULL);
         return;
     }
     /* a clean slot is accepted, so that what was refused above was refused for its setting or its length alone */
     reference_protect(size, mode, 2, frame, frame_size, made, size);
-    unprotects_to(size, mode, made, (slot_answer){0, 2, 0}, frame);
+    unprotects_to(size, mode, made, (slot_answer){0, 2, 0, 0}, frame);
 }
 
 static void refusals(void)
@@ -288,15 +309,17 @@ static sending random_sending(size_t size, uint32_t mode)
     return s;
 }
 
-/* Changes at most `most` semi-octets in each word: in all words as many, in all words some, or in few words. Their
-   number. */
-static unsigned damage(size_t size, unsigned most, uint8_t *slot)
+typedef struct { uint16_t semi_octets, bits; } changes;
+
+/* Changes at most `most` semi-octets in each word: in all words as many, in all words some, or in few words. */
+static changes damage(size_t size, unsigned most, uint8_t *slot)
 {
-    unsigned kind = below(4), all = 0;
+    unsigned kind = below(4);
+    changes all = {0, 0};
     for (size_t i = 0; i < reference_words(size); i++) {
-        unsigned changes = kind == 0 ? most : kind == 1 || below(8) == 0 ? below(most + 1) : 0;
-        damage_word(size, i, changes, slot);
-        all += changes;
+        unsigned in_word = kind == 0 ? most : kind == 1 || below(8) == 0 ? below(most + 1) : 0;
+        all.semi_octets += in_word;
+        all.bits += damage_word(size, i, in_word, ANY_BITS, slot);
     }
     return all;
 }
@@ -325,7 +348,7 @@ static void protecting(size_t size, uint32_t mode)
 {
     sending s = random_sending(size, mode);
     protects_to(size, mode, s.request, s.frame, s.slot);
-    unprotects_to(size, mode, s.slot, (slot_answer){0, (uint8_t)s.request, 0}, s.frame);
+    unprotects_to(size, mode, s.slot, (slot_answer){0, (uint8_t)s.request, 0, 0}, s.frame);
 }
 
 static void plain_frames(size_t size, uint32_t mode)
@@ -340,23 +363,38 @@ static void plain_frames(size_t size, uint32_t mode)
     protects_to(size, mode, request, frame, slot);
 }
 
-/* Demand 3 (a): the sender's frame and request come back, with the number of changes. */
+/* Demand 3 (a): the sender's frame and request come back, with the number of changes in semi-octets and in bits. */
 static void repairable(size_t size, uint32_t mode)
 {
     sending s = random_sending(size, mode);
-    unsigned changes = damage(size, mode - 1, s.slot);
-    unprotects_to(size, mode, s.slot, (slot_answer){0, (uint8_t)s.request, (uint16_t)changes}, s.frame);
+    changes all = damage(size, mode - 1, s.slot);
+    unprotects_to(size, mode, s.slot, (slot_answer){0, (uint8_t)s.request, all.semi_octets, all.bits}, s.frame);
+}
+
+/* The same with as many changed semi-octets as can be repaired, and in each the same number of bits, 1 to 4. */
+static void repairable_evenly(size_t size, uint32_t mode)
+{
+    sending s = random_sending(size, mode);
+    unsigned semi_octets = (unsigned)reference_words(size) * (mode - 1), each = 1 + below(4);
+    for (size_t i = 0; i < reference_words(size); i++)
+        damage_word(size, i, mode - 1, each, s.slot);
+    slot_answer want = {0, (uint8_t)s.request, (uint16_t)semi_octets, (uint16_t)(each * semi_octets)};
+    unprotects_to(size, mode, s.slot, want, s.frame);
+}
+
+/* Whether either count says that nothing was changed. */
+static int called_clean(slot_answer a)
+{
+    return a.number == 0 && (a.semi_octets == 0 || a.bits == 0);
 }
 
 /* Demand 3 (b): at least one change and up to 2 m - 2 in each word are never called clean. */
 static void never_clean(size_t size, uint32_t mode)
 {
     sending s = random_sending(size, mode);
-    unsigned changes = damage(size, 2 * mode - 2, s.slot);
-    if (changes == 0)
-        damage_word(size, below((uint32_t)reference_words(size)), 1 + below(2 * mode - 2), s.slot);
-    slot_answer got = unprotects_as_reference(size, mode, s.slot);
-    wrong += got.number == 0 && got.semi_octets == 0;
+    if (damage(size, 2 * mode - 2, s.slot).semi_octets == 0)
+        damage_word(size, below((uint32_t)reference_words(size)), 1 + below(2 * mode - 2), ANY_BITS, s.slot);
+    wrong += called_clean(unprotects_as_reference(size, mode, s.slot));
 }
 
 /* The same with words that are corrected to another word than the sender's. */
@@ -368,9 +406,8 @@ static void misled(size_t size, uint32_t mode)
         if (i == first || below(16) == 0)
             mislead_word(size, mode, i, s.slot);
         else
-            damage_word(size, i, below(mode), s.slot);
-    slot_answer got = unprotects_as_reference(size, mode, s.slot);
-    wrong += got.number == 0 && got.semi_octets == 0;
+            damage_word(size, i, below(mode), ANY_BITS, s.slot);
+    wrong += called_clean(unprotects_as_reference(size, mode, s.slot));
 }
 
 /* Valid words that protecting does not make: one bit of the data is another, so a hash does not match. */
@@ -382,7 +419,7 @@ static void foreign(size_t size, uint32_t mode)
     data[below((uint32_t)reference_data_size(size, mode))] ^= (uint8_t)(1 << below(4));
     reference_code(size, mode, data, s.slot);
     damage(size, mode - 1, s.slot);
-    unprotects_to(size, mode, s.slot, (slot_answer){4, 0, 0}, s.frame);
+    unprotects_to(size, mode, s.slot, (slot_answer){4, 0, 0, 0}, s.frame);
 }
 
 static void any_data(size_t size, uint32_t mode)
@@ -401,7 +438,7 @@ static void one_beyond(size_t size, uint32_t mode)
     sending s = random_sending(size, mode);
     size_t words = reference_words(size), beyond = below((uint32_t)words);
     for (size_t i = 0; i < words; i++)
-        damage_word(size, i, i == beyond ? mode + below(4) : below(mode), s.slot);
+        damage_word(size, i, i == beyond ? mode + below(4) : below(mode), ANY_BITS, s.slot);
     unprotects_as_reference(size, mode, s.slot);
 }
 
@@ -457,13 +494,15 @@ int main(int argc, char **argv)
     }
     quick_prepare();
     protect_list();
-    unprotect_list();
+    unprotect_list("unprotect.txt", "unprotect.txt: every line");
+    unprotect_list("unprotect_bits.txt", "unprotect_bits.txt: every line");
     frame_sizes();
     refusals();
     delicate();
     everywhere(protecting, "every size and mode: random frames and requests, and their slots unprotected");
     everywhere(plain_frames, "every size and mode: frames of one byte, one bit changed");
     everywhere(repairable, "every size and mode: at most m - 1 changes a word come back exactly");
+    everywhere(repairable_evenly, "every size and mode: the same with m - 1 changes in all words, 1 to 4 bits in each");
     everywhere(never_clean, "every size and mode: up to 2m - 2 changes a word are never clean");
     everywhere(misled, "every size and mode: the same, with words near another valid word");
     everywhere(foreign, "every size and mode: valid words with a wrong hash are a 4");

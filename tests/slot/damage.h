@@ -8,7 +8,8 @@
 /* Changes semi-octet k of word i by that value. */
 void change_place(size_t size, size_t i, size_t k, uint8_t value, uint8_t *slot);
 
-/* Changes that many different semi-octets of word i. */
-void damage_word(size_t size, size_t i, unsigned changes, uint8_t *slot);
+/* Changes that many different semi-octets of word i, each in `each` bits or, by ANY_BITS, in 1 to 4. The bits changed. */
+enum { ANY_BITS = 0 };
+unsigned damage_word(size_t size, size_t i, unsigned changes, unsigned each, uint8_t *slot);
 
 #endif

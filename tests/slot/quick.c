@@ -215,12 +215,14 @@ static void code_words(const sizes *s, uint32_t mode, const uint8_t *data, uint8
     }
 }
 
+typedef struct { uint16_t semi_octets, bits; } changes;
+
 /* Takes the words apart and corrects them, from the last to the first, so that a word's check semi-octets give way to the
-   data of the word before it; the first ones stand before `data`. The number of changes, or -1 where a word has no valid
-   word near. */
-static int correct_words(const sizes *s, uint32_t mode, const uint8_t *mixed, uint8_t *data)
+   data of the word before it; the first ones stand before `data`. `all` gets the changes of all words; 0 where a word has
+   no valid word near. */
+static int correct_words(const sizes *s, uint32_t mode, const uint8_t *mixed, uint8_t *data, changes *all)
 {
-    int changes = 0;
+    changes so_far = {0, 0};
     uint8_t *word = data + 2 * (s->first + s->second + s->frame) - s->checks;
     for (size_t i = s->words; i-- > 0;) {
         size_t length = length_of(s, i);
@@ -232,12 +234,16 @@ static int correct_words(const sizes *s, uint32_t mode, const uint8_t *mixed, ui
             syndrome ^= syndrome_row[k][word[k]];
         }
         syndrome &= syndromes_of(mode);
-        uint8_t count = syndrome == 0 ? 0 : closed_change(word, length, mode, syndrome);
-        if (count == mode)
-            return -1;
-        changes += count;
+        if (syndrome == 0)
+            continue;
+        word_changes made = closed_change(word, length, mode, syndrome);
+        if (made.count == mode)
+            return 0;
+        so_far.semi_octets += made.count;
+        so_far.bits += made.bits;
     }
-    return changes;
+    *all = so_far;
+    return 1;
 }
 
 /* ---- the two calls */
@@ -264,19 +270,19 @@ silberlaus_unprotected quick_unprotect(size_t size, uint32_t mode, const uint8_t
     sizes s;
     uint8_t mixed[2 * MOST_BYTES], data[MOST_CHECKS + 2 * MOST_BYTES], found[MOST_BYTES];
     uint32_t request;
+    changes all;
     if (!set_sizes(size, mode, &s))
-        return (silberlaus_unprotected){SILBERLAUS_BAD_SETTING, 0, 0};
+        return (silberlaus_unprotected){SILBERLAUS_BAD_SETTING, 0, 0, 0};
     if (slot_len != size || frame_len != s.frame)
-        return (silberlaus_unprotected){SILBERLAUS_BAD_LENGTH, 0, 0};
+        return (silberlaus_unprotected){SILBERLAUS_BAD_LENGTH, 0, 0, 0};
     for (size_t j = 0; j < size; j++) {
         mixed[2 * j] = slot[size - 1 - j] >> 4;
         mixed[2 * j + 1] = slot[size - 1 - j] & 15;
     }
-    int changes = correct_words(&s, mode, mixed, data + MOST_CHECKS);
-    if (changes < 0)
-        return (silberlaus_unprotected){SILBERLAUS_BEYOND_REPAIR, 0, 0};
+    if (!correct_words(&s, mode, mixed, data + MOST_CHECKS, &all))
+        return (silberlaus_unprotected){SILBERLAUS_BEYOND_REPAIR, 0, 0, 0};
     if (!take_data(&s, data + MOST_CHECKS, found, &request))
-        return (silberlaus_unprotected){SILBERLAUS_FOREIGN, 0, 0};
+        return (silberlaus_unprotected){SILBERLAUS_FOREIGN, 0, 0, 0};
     memcpy(frame, found, frame_len);
-    return (silberlaus_unprotected){SILBERLAUS_ACCEPTED, (uint8_t)request, (uint16_t)changes};
+    return (silberlaus_unprotected){SILBERLAUS_ACCEPTED, (uint8_t)request, all.semi_octets, all.bits};
 }

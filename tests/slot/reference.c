@@ -240,21 +240,23 @@ slot_answer reference_unprotect(size_t size, uint32_t mode, const uint8_t *recei
                                 uint8_t *frame, size_t frame_len)
 {
     if (!settings_fit(size, mode))
-        return (slot_answer){1, 0, 0};
+        return (slot_answer){1, 0, 0, 0};
     if (received_len != size || frame_len != reference_frame_size(size, mode))
-        return (slot_answer){2, 0, 0};
+        return (slot_answer){2, 0, 0, 0};
     uint8_t data[MOST_SEMI_OCTETS], corrected[MOST_BYTES], found[MOST_BYTES], made[MOST_BYTES];
     if (!corrected_data(size, mode, received, data))
-        return (slot_answer){3, 0, 0};
+        return (slot_answer){3, 0, 0, 0};
     /* accepted where protecting what stands in the corrected slot makes that slot again */
     uint32_t request = read_data(size, mode, data, found);
     reference_code(size, mode, data, corrected);
     reference_protect(size, mode, request, found, frame_len, made, size);
     if (memcmp(corrected, made, size) != 0)
-        return (slot_answer){4, 0, 0};
-    uint16_t count = 0;
+        return (slot_answer){4, 0, 0, 0};
+    slot_answer accepted = {0, (uint8_t)request, 0, 0};
     for (size_t place = 0; place < 2 * size; place++)
-        count += semi_octet(received, place) != semi_octet(made, place);
+        accepted.semi_octets += semi_octet(received, place) != semi_octet(made, place);
+    for (size_t bit = 0; bit < 8 * size; bit++)
+        accepted.bits += (received[bit / 8] >> bit % 8 & 1) != (made[bit / 8] >> bit % 8 & 1);
     memcpy(frame, found, frame_len);
-    return (slot_answer){0, (uint8_t)request, count};
+    return accepted;
 }

@@ -44,14 +44,15 @@ fn field(answer: &Registers, at: usize, width: usize, value: u64) {
     assert_eq!(bytes[at..at + width], value.to_le_bytes()[..width]);
 }
 
-const MODE: u32 = 2;
-const FRAME: [u8; 32] = [0x3c; 32];
+const MODE: u32 = 4;
+const FRAME: [u8; 233] = [0x3c; 233];
 
-/// The slot of `FRAME` with request 3, a semi-octet changed in each of its six words.
-fn damaged_slot() -> [u8; 40] {
-    let mut slot = [0; 40];
-    assert_eq!(protect(40, MODE, 3, &FRAME, &mut slot), 0);
-    for byte in &mut slot[..3] {
+/// The slot of `FRAME` with request 3, three semi-octets changed in each of its 54 words, two bits in each: the bits take
+/// more than one byte.
+fn damaged_slot() -> [u8; 400] {
+    let mut slot = [0; 400];
+    assert_eq!(protect(400, MODE, 3, &FRAME, &mut slot), 0);
+    for byte in &mut slot[..81] {
         *byte ^= 0x99;
     }
     slot
@@ -70,7 +71,7 @@ fn long_record() -> (Vec<u8>, usize) {
 
 #[test]
 fn sizes() {
-    assert_eq!((size_of::<Unprotected>(), align_of::<Unprotected>()), (4, 2));
+    assert_eq!((size_of::<Unprotected>(), align_of::<Unprotected>()), (6, 2));
     assert_eq!((size_of::<Frame>(), align_of::<Frame>()), (48, 4));
     assert_eq!((size_of::<Added>(), align_of::<Added>()), (8, 4));
     assert_eq!((size_of::<Entries>(), align_of::<Entries>()), (8, 4));
@@ -79,17 +80,19 @@ fn sizes() {
 
 #[test]
 fn unprotected() {
-    let (slot, mut frame) = (damaged_slot(), [0; 32]);
+    let (slot, mut frame) = (damaged_slot(), [0; 233]);
     // SAFETY: both slices are good for their lengths, and the struct comes back in registers.
-    let r = unsafe { raw_unprotect(40, MODE, slot.as_ptr(), 40, frame.as_mut_ptr(), 32) };
+    let r = unsafe { raw_unprotect(400, MODE, slot.as_ptr(), 400, frame.as_mut_ptr(), 233) };
     field(&r, offset_of!(Unprotected, number), 1, 0);
     field(&r, offset_of!(Unprotected, request), 1, 3);
-    field(&r, offset_of!(Unprotected, semi_octets), 2, 6);
+    field(&r, offset_of!(Unprotected, semi_octets), 2, 162);
+    field(&r, offset_of!(Unprotected, bits), 2, 324);
     // SAFETY: as above; the frame is lent one byte short.
-    let r = unsafe { raw_unprotect(40, MODE, slot.as_ptr(), 40, frame.as_mut_ptr(), 31) };
+    let r = unsafe { raw_unprotect(400, MODE, slot.as_ptr(), 400, frame.as_mut_ptr(), 232) };
     field(&r, offset_of!(Unprotected, number), 1, 2);
     field(&r, offset_of!(Unprotected, request), 1, 0);
     field(&r, offset_of!(Unprotected, semi_octets), 2, 0);
+    field(&r, offset_of!(Unprotected, bits), 2, 0);
 }
 
 #[test]
