@@ -4,7 +4,7 @@
 // Inner: `code_word` stands over it. It asks for the locator's table, for t from 1 to 3 and for words of at most 15 semi-octets.
 ghost use mathlib.Core.Bool.{cond};
 ghost use mathlib.Core.Path.{_≡_};
-ghost use Prim.Native.Nat.{_+_, _^_, _≤_, _<_};
+ghost use Prim.Native.Nat.{_+_, _%_, _^_, _≤_, _<_};
 ghost use lib.Dec.{ltb};
 ghost use lib.ListN.{length};
 ghost use Rattle.laws.specs.Decides.{Decides};
@@ -59,13 +59,12 @@ const COUNTS: [u16; 16] = [
     0, 17, 17, 33, 17, 33, 33, 49, 17, 33, 33, 49, 33, 49, 49, 65,
 ];
 
-// Both counts of an error in one number, so that one loop and one sum count semi-octets and bits.
+// Both counts of the error in the low four bits of v, in one number, so that one loop and one sum count semi-octets and bits.
 fn both_counts(v: u8) -> u16
-    requires { ⌜ v < 16 ⌝ }
-    ensures { λ r. ⌜ r ≡ bothOf v ⌝ }
+    ensures { λ r. ⌜ r ≡ bothOf (v % 16) ⌝ }
     ensures { λ r. ⌜ r ≤ 65 ⌝ }
 {
-    let at = wide(v);
+    let at = wide(v % 16);
     COUNTS[at]
 }
 
@@ -116,7 +115,8 @@ fn correct_one(t: &[u32; 512], word: &mut [u8], s: u64, most: u8) -> u8
         return 0;
     }
     if clear(s ^ row(t, k, v), most) {
-        word[k] = word[k] ^ v;
+        let new = word[k] ^ v;
+        word[k] = new;
         return (both_counts(v) / 16) as u8;
     }
     0

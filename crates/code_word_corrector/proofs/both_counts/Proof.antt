@@ -1,6 +1,6 @@
 -- `code_word_corrector::both_counts` meets its contract: the table is that of the definition, by computation. Assumes nothing.
 use mathlib.Core.Path.{ap, _∙_}
-use Prim.Native.Nat.{ℕ}
+use Prim.Native.Nat.{ℕ, _%_}
 use native.Mathlib.Omega.{arith}
 use lib.ListN.{getD}
 use borrow.Author.Needs.{needs}
@@ -15,9 +15,9 @@ use Rattle.code_word_corrector.proofs.both_counts.Tie as tie
 returns : tie.Need-returns
 unfolding tab bothOf ones
 returns c =
-    let v = c .before .args .v in
-    let e = ap (λ (i : ℕ). getD (tab bothOf 16) i 0) (c .wide .ensures .0) ∙ getD-tab bothOf 16 v (omega arith) in
-    (e, rw e (both-few v))
+    let d = c .before .args .v % 16 in
+    let e = ap (λ (i : ℕ). getD (tab bothOf 16) i 0) (c .wide .ensures .0) ∙ getD-tab bothOf 16 d (omega arith) in
+    (e, rw e (both-few d))
 
 pub both-counts-spec : {M : Type 1} → statement M
 both-counts-spec =

@@ -1,10 +1,11 @@
 -- `code_word_corrector::take_off` meets its contract. The loop has the front done and the rest as it was. Assumes nothing.
-use mathlib.Core.Path.{refl, sym, _∙_}
+use mathlib.Core.Path.{refl, sym, ap, _∙_}
 use Prim.Native.Nat.{_≤_, _-_, _*_}
 use native.Mathlib.Omega.{arith}
+use native.Mathlib.Nat.{mod-mod}
 use lib.ListN.{length}
 use borrow.Author.Needs.{needs}
-use Rattle.code_word_laws.specs.Corrector.{bothChanged}
+use Rattle.code_word_laws.specs.Corrector.{bothChanged, bothOf}
 use Rattle.code_word_laws.proofs.Changes.{both-changed, both-apart}
 use Rattle.code_word_laws.proofs.Turns.{TakenTo, taken-first, taken-next, taken-last}
 use Rattle.code_word_corrector.proofs.take_off.Statement.{statement}
@@ -31,7 +32,7 @@ loop-again c =
       search needs,
       omega (arith, h .loop .inv .1, n .ensures .1),
       taken-next bothChanged (a .word .now) (a .e) (h .loop .i) (h .loop .rest) (h .loop .both) (h .loop .word) (h .loop .inv .2)
-          (omega arith) refl (n .ensures .0 ∙ sym (both-changed _ _)),
+          (omega arith) refl (n .ensures .0 ∙ ap bothOf (mod-mod (h .loop .rest) 16) ∙ sym (both-changed _ _)),
     )
 
 same-length : tie.Need-same-length Inv-loop μ-loop
