@@ -1,7 +1,7 @@
 #!/usr/bin/env python3
 """Runs the program `day`, which is named on the command line, and fails where it does not say what it should.
 
-The numbers of its report are counted here again, from tests/frame/frames.txt and document 01 alone; then it is lent samples that
+The numbers of its report are counted here again, from tests/frame/frames.txt and documents 01 and 02 alone; then it is lent samples that
 are damaged, an input that cannot be read and an output that cannot be written.
 """
 import os
@@ -43,9 +43,15 @@ def frames():
             yield len(fields[1]) // 2, int(fields[5]), int(fields[24])
 
 
+def changed_bits(place, changes):
+    """The ones in what is added to a slot's first semi-octets: 1 to 15 in turn and round again, from one further on with each frame."""
+    return sum(bin((place + i) % 15 + 1).count("1") for i in range(changes))
+
+
 def counted():
     """What the report must say, by the words of its lines, and the record's entries; refusals 3 and 4 are one sum."""
-    sent, ways, total, entries, used = {2: 0, 3: 0, 4: 0}, [0] * 4, dict(left=0, changed=0, lines=0, symbols=0, refused=0), [], 4
+    sent, ways, entries, used = {2: 0, 3: 0, 4: 0}, [0] * 4, [], 4
+    total = dict(left=0, changed=0, bits=0, lines=0, symbols=0, refused=0)
     for place, (length, last, symbols) in enumerate(frames()):
         slot = slot_for(length)
         if slot is None:
@@ -60,6 +66,7 @@ def counted():
             total["refused"] += 1
             continue
         total["changed"] += changes
+        total["bits"] += changed_bits(place, changes)
         total["lines"] += last
         total["symbols"] += symbols
         if used + length + 4 > ROOM:
@@ -93,8 +100,8 @@ def check_report(text):
                                                          len(list(frames())) - total["left"] - sum(sent.values())])
     expect("slots by mode", by["Slots sent, by mode"] == [sent[2], sent[3], sent[4]])
     expect("slots by what happens on the way", by["Slots sent, by what happens on the way"] == ways)
-    expect("clean, repaired and how much", by["Slots accepted"] == [ways[0], ways[1] + ways[2], total["changed"]])
-    expect("nothing differs from what was sent", by["Accepted slots beside what was sent"] == [0, 0, 0])
+    expect("clean, repaired and how much", by["Slots accepted"] == [ways[0], ways[1] + ways[2], total["changed"], total["bits"]])
+    expect("nothing differs from what was sent", by["Accepted slots beside what was sent"] == [0, 0, 0, 0])
     expect("frames read", by["Accepted frames read into their fields"] == [accepted, total["lines"], total["symbols"]])
     refused = by["Refused, by number"]
     expect("refused: all that was damaged beyond repair, and what had no room", refused[:2] == [0, 0]

@@ -13,9 +13,10 @@ pub fn report(out: &mut [u8], frames: usize, room: usize, t: Tally) -> usize
     ensures { λ r. ⌜ r ≤ length (now (out .entry)) ⌝ }
 {
     let a = sent(out, 0, frames, t);
-    let b = received(out, a, t);
-    let c = refused(out, b, t);
-    kept(out, c, room, t)
+    let b = accepted(out, a, t);
+    let c = read(out, b, t);
+    let d = refused(out, c, t);
+    kept(out, d, room, t)
 }
 
 // What is left of a when b is taken away; nothing where b is more.
@@ -69,19 +70,18 @@ Slots sent, by what happens on the way
     )
 }
 
-fn received(out: &mut [u8], at: usize, t: Tally) -> usize
+fn accepted(out: &mut [u8], at: usize, t: Tally) -> usize
     ensures { λ r. ⌜ r ≤ length (now (out .entry)) ⌝ }
 {
     let numbers = [
         t.clean,
         t.repaired,
         t.semi_octets,
+        t.bits,
         t.other_frames,
         t.other_requests,
         t.other_counts,
-        t.frames,
-        t.lines,
-        t.symbols,
+        t.other_bits,
     ];
     fill(
         out,
@@ -91,12 +91,26 @@ Slots accepted
   clean
   repaired
   semi-octets repaired in them
+  bits repaired in them
 
 Accepted slots beside what was sent
   frames that differ
   requests that differ
   counts of repaired semi-octets that differ from the changes made
+  counts of repaired bits that differ from the changes made
+",
+        &numbers,
+    )
+}
 
+fn read(out: &mut [u8], at: usize, t: Tally) -> usize
+    ensures { λ r. ⌜ r ≤ length (now (out .entry)) ⌝ }
+{
+    let numbers = [t.frames, t.lines, t.symbols];
+    fill(
+        out,
+        at,
+        b"
 Accepted frames read into their fields
   frames
   spectral lines, up to each frame's last one

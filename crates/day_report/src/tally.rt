@@ -14,9 +14,11 @@ pub struct Tally {
     pub clean: usize,
     pub repaired: usize,
     pub semi_octets: usize,
+    pub bits: usize,
     pub other_frames: usize,
     pub other_requests: usize,
     pub other_counts: usize,
+    pub other_bits: usize,
     pub frames: usize,
     pub lines: usize,
     pub symbols: usize,
@@ -52,9 +54,11 @@ impl Tally {
             clean: 0,
             repaired: 0,
             semi_octets: 0,
+            bits: 0,
             other_frames: 0,
             other_requests: 0,
             other_counts: 0,
+            other_bits: 0,
             frames: 0,
             lines: 0,
             symbols: 0,
@@ -98,19 +102,20 @@ impl Tally {
         self
     }
 
-    // A slot was accepted with so many semi-octets repaired.
-    pub fn accept(mut self, count: usize) -> Self {
+    // A slot was accepted with so many semi-octets repaired, and so many bits in them.
+    pub fn accept(mut self, count: usize, bits: usize) -> Self {
         if count == 0 {
             self.clean = more(self.clean, 1);
         } else {
             self.repaired = more(self.repaired, 1);
         }
         self.semi_octets = more(self.semi_octets, count);
+        self.bits = more(self.bits, bits);
         self
     }
 
-    // An accepted slot beside what was sent: whether the frame, the request and the count are the same.
-    pub fn compare(mut self, frame: bool, request: bool, count: bool) -> Self {
+    // An accepted slot beside what was sent: whether the frame, the request and the counts of semi-octets and bits are the same.
+    pub fn compare(mut self, frame: bool, request: bool, count: bool, bits: bool) -> Self {
         if !frame {
             self.other_frames = more(self.other_frames, 1);
         }
@@ -119,6 +124,9 @@ impl Tally {
         }
         if !count {
             self.other_counts = more(self.other_counts, 1);
+        }
+        if !bits {
+            self.other_bits = more(self.other_bits, 1);
         }
         self
     }

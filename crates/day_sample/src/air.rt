@@ -71,6 +71,7 @@ fn repairable(words: usize, mode: u32) -> usize
 // How many semi-octets of the slot are changed.
 pub fn changes_at(place: usize, size: usize, mode: u32) -> usize
     requires { ⌜ size ≤ 400 ⌝ }
+    ensures { λ r. ⌜ r ≤ 216 ⌝ }
 {
     let words = word_count(size);
     let most = repairable(words, mode);
@@ -94,6 +95,26 @@ pub fn change(slot: &mut [u8], n: usize, place: usize) {
         slot[at] = slot[at] ^ pattern(p, place);
         p = p + 1;
     }
+}
+
+// How many bits the first n changes change. The bound is that of `changes_at`, so that the sum fits.
+pub fn bits_changed(n: usize, place: usize) -> usize
+    requires { ⌜ n ≤ 216 ⌝ }
+{
+    let mut bits: usize = 0;
+    let mut p: usize = 0;
+    while p < n {
+        bits = bits + ones(pattern(p, place));
+        p = p + 1;
+    }
+    bits
+}
+
+// The bits of a byte that are one.
+fn ones(x: u8) -> usize
+    ensures { λ r. ⌜ r ≤ 8 ⌝ }
+{
+    u8::count_ones(x) as usize
 }
 
 // A byte with a semi-octet from 1 to 15 in the half that place p of the slot has in its byte.

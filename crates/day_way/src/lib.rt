@@ -79,14 +79,16 @@ fn receive(
 {
     let request = air::request_at(trip.place);
     let changes = air::changes_at(trip.place, trip.size, trip.mode);
+    let changed_bits = air::bits_changed(changes, trip.place);
     let got = carry(trip, request, changes, frame, slot, out);
-    let Reception::Accepted(found, count) = got else {
+    let Reception::Accepted(found, count, bits) = got else {
         return t.refuse(got.number());
     };
-    let compared = t.accept(count as usize).compare(
+    let compared = t.accept(count as usize, bits as usize).compare(
         same(out, frame),
         found as u32 == request,
         count as usize == changes,
+        bits as usize == changed_bits,
     );
     keep(trip.khz, out, found, count, buffer, compared)
 }

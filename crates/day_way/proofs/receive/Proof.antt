@@ -7,7 +7,8 @@ use Rattle.day_way.proofs.receive.Tie as tie
 keep-requires : tie.Need-keep-requires
 keep-requires c κs =
     let k = c .before .before .before .before .before .before .before .before .before .before in
-    omega (arith, k .out .given, k .before .before .before .before .before .before .before .before .before .before .before .before .pre .1)
+    let start = k .before .before .before .before .before .before .before .before .before .before .before .before .before in
+    omega (arith, k .out .given, start .pre .1)
 
 same-length-3 : tie.Need-same-length-3
 same-length-3 c =
@@ -18,8 +19,9 @@ pub receive-spec : {M : Type 1} → statement M
 receive-spec =
     tie.close
     (tie.spec
-    (λ c κs. search needs) (λ c κs. search needs) (λ c κs. search needs) (λ c. search needs)
-    (λ c κs. search needs) (λ c κs. search needs) (λ c. search needs) (λ c. search needs) (λ c. search needs)
-    (λ c. search needs) (λ c κs. search needs) (λ c κs. search needs) (λ c. search needs) (λ c. search needs)
+    (λ c κs. search needs) (λ c κs. search needs) (λ c κs. search needs) (λ c κs. search needs)
+    (λ c. search needs) (λ c κs. search needs) (λ c κs. search needs) (λ c. search needs)
+    (λ c. search needs) (λ c. search needs) (λ c. search needs) (λ c. search needs) (λ c κs. search needs)
+    (λ c κs. search needs) (λ c. search needs) (λ c. search needs) (λ c. search needs)
     (λ c κs. search needs) keep-requires same-length-3 (λ c. search needs) (λ c. search needs)
     (λ c. search needs))
