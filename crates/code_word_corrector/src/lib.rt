@@ -56,7 +56,22 @@ fn error_word(t: &[u32; 512], s: u64, most: u8) -> u64
 
 // What an error counts, by its value: 1 as a changed semi-octet, and 16 for each of its ones.
 const COUNTS: [u16; 16] = [
-    0, 17, 17, 33, 17, 33, 33, 49, 17, 33, 33, 49, 33, 49, 49, 65,
+    0,
+    17,
+    17,
+    33,
+    17,
+    33,
+    33,
+    49,
+    17,
+    33,
+    33,
+    49,
+    33,
+    49,
+    49,
+    65,
 ];
 
 // Both counts of the error in the low four bits of v, in one number, so that one loop and one sum count semi-octets and bits.

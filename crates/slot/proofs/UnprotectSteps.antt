@@ -66,8 +66,12 @@ module _ (size mode : ℕ) (slot old new message order : List ℕ) (count bits :
   pub accepted-answer : (q : ℕ) → q ≡ requestIn size order → IsDelivered size mode order old new true
       → Unprotects size mode slot old new (acceptedWith q count bits)
   accepted-answer q f d =
-      rw (frame-as (d .frame-is), request-as q f, count-changes size mode slot message count bits (taken .range) corrected,
-      bits-changes size mode slot message count bits (taken .range) corrected)
+      rw (
+        frame-as (d .frame-is),
+        request-as q f,
+        count-changes size mode slot message count bits (taken .range) corrected,
+        bits-changes size mode slot message count bits (taken .range) corrected,
+      )
       (accepts size mode slot old (slotWith size mode message) taken
       (corrected-slot size mode slot message count bits (taken .range) corrected) (rw hashes (d .matching)))
 

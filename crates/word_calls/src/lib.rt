@@ -33,7 +33,12 @@ pub extern "C" fn word_correct(word: &mut [u8], mode: u32) -> WordAnswer
 
 // Many words corrected: the answer's number.
 #[no_mangle]
-pub extern "C" fn word_correct_each(words: &mut [u8], mode: u32, counts: &mut [u8], bits: &mut [u8]) -> u8
+pub extern "C" fn word_correct_each(
+    words: &mut [u8],
+    mode: u32,
+    counts: &mut [u8],
+    bits: &mut [u8],
+) -> u8
     ensures { λ r. ⌜ CorrectsEach mode (now (words .entry)) (now (counts .entry)) (now (bits .entry)) (now (words .exit))
         (now (counts .exit)) (now (bits .exit)) r ⌝ }
 {
