@@ -1,9 +1,9 @@
 -- The arithmetic stream of a frame (5.4.2.7): what each return of `read_arithmetic` says, and the answer with both buffers as a judgement
 -- asks.
 -- Assumes nothing.
-use mathlib.Core.Path.{_≡_, refl, sym, ap}
+use mathlib.Core.Path.{_≡_, refl, sym, ap, _∙_}
 use mathlib.Core.List.{List}
-use Prim.Native.Nat.{ℕ, _+_, _*_, _≤_}
+use Prim.Native.Nat.{ℕ, _+_, _*_, _≤_, _<_}
 use native.Mathlib.Omega.{arith}
 use lib.ListN.{length}
 use lib.IntN.{ℤ}
@@ -15,7 +15,7 @@ use Rattle.frame_coder.specs.Symbol.{startOf}
 use Rattle.frame_tns.specs.Tns.{Filter, filterOf, filterGiven, unused}
 use Rattle.frame_spectral.specs.Spectral.{Spectral, spectralFrom, spectralGiven}
 use Rattle.frame_arithmetic.specs.Answers.{Whole, arithmeticFrom}
-use Rattle.frame_arithmetic.specs.Answers.{Judged, refused, judgedRead, Given, givenOf, Answers, told}
+use Rattle.frame_arithmetic.specs.Answers.{Judged, refused, judgedRead, Given, refusedWith, givenOf, Answers, answered, told}
 use Rattle.frame_pairs.specs.Sound.{Small}
 use Rattle.frame_tns.specs.Sound.{TnsTables, GoodFilter}
 use Rattle.frame_spectral.specs.Sound.{GoodSpectral}
@@ -28,6 +28,7 @@ use Rattle.frame_tns.specs.declared.FilterRead.the-variants as filter
 use Rattle.frame_spectral.specs.declared.SpectralRead.{SpectralRead}
 use Rattle.frame_spectral.specs.declared.SpectralRead.the-variants as spectralRead
 use Rattle.frame_arithmetic.specs.declared.Reading.{Reading}
+use Rattle.frame_arithmetic.specs.declared.Answer.{Answer}
 use Rattle.frame_arithmetic.specs.declared.Answer.the-variants as answer
 
 -- ---- the tables
@@ -119,27 +120,35 @@ pub answers-by : (o : Reading) (i j : Judged) (spectrum spectrum′ : List ℤ) 
     → Answered o j spectrum spectrum′ residual residual′ → Answered o i spectrum spectrum′ residual residual′
 answers-by o i j spectrum spectrum′ residual residual′ e a = rw e a
 
-pub answers-setting : (o : Reading) (j : Judged) (spectrum : List ℤ) (residual : List ℕ)
-    → o ≡ record { answer = answer.Setting; «tns_coefficients_0» = unused; «tns_coefficients_1» = unused } → j ≡ refused 1 0
-    → Answered o j spectrum spectrum residual residual
+-- a refusal g with number n and cause k: zero in every other field, and both buffers as lent
+pub answers-refused : (g : Given) (j : Judged) (n k : ℕ) (spectrum : List ℤ) (residual : List ℕ) → g ≡ refusedWith n k → j ≡ refused n k
+    → 1 ≤ n → (n ≡ 5 → 1 ≤ k) → k ≤ 7 → Answers g j spectrum spectrum residual residual × Bounded g spectrum
 unfolding givenOf
-answers-setting o j spectrum residual e f = rw (e, f)
-    (record { given = refl; lines = refl; bits = refl }, refused-bounds _ spectrum (omega arith) (λ z. absurd (omega arith)) (omega arith))
+answers-refused g j n k spectrum residual e f h a b = rw (e, f)
+    (record { given = refl; lines = refl; bits = refl }, refused-bounds (refusedWith n k) spectrum h a b)
 
-pub answers-length : (o : Reading) (j : Judged) (spectrum : List ℤ) (residual : List ℕ)
-    → o ≡ record { answer = answer.Length; «tns_coefficients_0» = unused; «tns_coefficients_1» = unused } → j ≡ refused 2 0
+-- answer a is what a refusal with number n and without a cause asks for
+abbrev pub Refuses : Answer → ℕ → Type 0
+Refuses a n = (o : Reading) (j : Judged) (spectrum : List ℤ) (residual : List ℕ)
+    → o ≡ record { answer = a; «tns_coefficients_0» = unused; «tns_coefficients_1» = unused } → j ≡ refused n 0
     → Answered o j spectrum spectrum residual residual
-unfolding givenOf
-answers-length o j spectrum residual e f = rw (e, f)
-    (record { given = refl; lines = refl; bits = refl }, refused-bounds _ spectrum (omega arith) (λ z. absurd (omega arith)) (omega arith))
+
+refuses : (a : Answer) (n : ℕ) → answered a unused unused ≡ refusedWith n 0 → 1 ≤ n → n < 5 → Refuses a n
+refuses a n i h k o j spectrum residual e f =
+    answers-refused (told o) j n 0 spectrum residual (ap told e ∙ i) f h (λ z. absurd (omega (arith, z, k))) (omega arith)
+
+pub answers-setting : Refuses answer.Setting 1
+answers-setting = refuses answer.Setting 1 refl (omega arith) (omega arith)
+
+pub answers-length : Refuses answer.Length 2
+answers-length = refuses answer.Length 2 refl (omega arith) (omega arith)
 
 pub answers-cause : (o : Reading) (x : Read ℕ Whole) (k : ℕ) (spectrum spectrum′ : List ℤ) (residual residual′ : List ℕ)
     → o ≡ record { answer = answer.BitError k; «tns_coefficients_0» = unused; «tns_coefficients_1» = unused } → x ≡ cause k
     → spectrum′ ≡ spectrum → residual′ ≡ residual → (1 ≤ k) × (k ≤ 7)
     → Answered o (judgedRead x) spectrum spectrum′ residual residual′
-unfolding givenOf
-answers-cause o x k spectrum spectrum′ residual residual′ e f a b h = rw (e, f, a, b)
-    (record { given = refl; lines = refl; bits = refl }, refused-bounds _ spectrum (omega arith) (λ z. h .0) (h .1))
+answers-cause o x k spectrum spectrum′ residual residual′ e f a b h = rw (a, b)
+    (answers-refused (told o) (judgedRead x) 5 k spectrum residual (ap told e) (ap judgedRead f) (omega arith) (λ z. h .0) (h .1))
 
 pub answers-value : (x : Read ℕ Whole) (v : Side) (f g : Filter) (y : Spectral) (q : ℕ) (spectrum : List ℤ) (residual : List ℕ)
     → x ≡ value (record { side = v; first = f; second = g; spectral = y }) q

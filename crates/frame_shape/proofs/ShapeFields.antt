@@ -1,9 +1,10 @@
 -- The shape's six fields in the order of reading, and what its definition is behind them. Assumes nothing.
 use mathlib.Core.Path.{_≡_}
+use mathlib.Core.Bool.{Bool, cond}
 use mathlib.Core.List.{List}
-use Prim.Native.Nat.{ℕ, _+_, _-_, _≤_, _<_}
+use Prim.Native.Nat.{ℕ, _+_, _-_, _<_}
 use native.Mathlib.Omega.{arith}
-use borrow.Author.Tests.{le-leb, lt-leb}
+use lib.Dec.{leb}
 use Rattle.frame_bits.specs.Read.{value, cause}
 use Rattle.frame_bits.specs.Sound.{GoodField}
 use Rattle.frame_bits.specs.declared.Field.{Field}
@@ -19,41 +20,22 @@ pub record ShapeFields (s : List ℕ) (p : ℕ) (l h m g n j : Field) : Type 0 w
   pub sign : GoodField s (g .next) 1 n
   pub joint : GoodField s (n .next) (25 - m .value) j
 
-module _ (s : List ℕ) (p : ℕ) (l h m g n j : Field) (f : ShapeFields s p l h m g n j) where
-  pub shape-far : jointEnd (m .value) ≤ j .value → shapeOf s p ≡ cause 3
-  unfolding shapeOf
-  shape-far k =
-      rw (
-        f .low .found,
-        f .high .found,
-        f .mode .found,
-        f .gain .found,
-        f .sign .found,
-        f .joint .found,
-        le-leb (jointEnd (m .value)) (j .value) k,
-      )
-
-  pub shape-done :
-      j .value < jointEnd (m .value)
-      → shapeOf s p ≡ value (record {
-        low = l .value;
-        high = h .value;
-        mode = m .value;
-        gain = g .value;
-        sign = n .value;
-        joint = j .value;
-      }) (j .next)
-  unfolding shapeOf
-  shape-done k =
-      rw (
-        f .low .found,
-        f .high .found,
-        f .mode .found,
-        f .gain .found,
-        f .sign .found,
-        f .joint .found,
-        lt-leb (jointEnd (m .value)) (j .value) k,
-      )
+-- what the definition is behind them; t says whether the joint index is at its end or above
+pub shape-read :
+    (s : List ℕ) (p : ℕ) (l h m g n j : Field) (t : Bool) → ShapeFields s p l h m g n j → leb (jointEnd (m .value)) (j .value) ≡ t
+    → shapeOf s p
+    ≡ cond t (cause 3)
+    (value (record {
+      low = l .value;
+      high = h .value;
+      mode = m .value;
+      gain = g .value;
+      sign = n .value;
+      joint = j .value;
+    }) (j .next))
+unfolding shapeOf
+shape-read s p l h m g n j t f k =
+    rw (f .low .found, f .high .found, f .mode .found, f .gain .found, f .sign .found, f .joint .found, k)
 
 -- the gain has one or two bits
 pub gain-below : (s : List ℕ) (p q : ℕ) (m g : Field) → GoodField s p 1 m → GoodField s q (1 + m .value) g → g .value < 4

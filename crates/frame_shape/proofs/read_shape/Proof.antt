@@ -3,8 +3,9 @@ use mathlib.Core.Path.{sym, refl}
 use native.Mathlib.Omega.{arith}
 use denote.Ref.{now}
 use borrow.Author.Needs.{needs}
+use borrow.Author.Tests.{le-leb, lt-leb}
 use Rattle.frame_shape.proofs.read_shape.Statement.{statement}
-use Rattle.frame_shape.proofs.ShapeFields.{ShapeFields, shape-far, shape-done, gain-below}
+use Rattle.frame_shape.proofs.ShapeFields.{ShapeFields, shape-read, gain-below}
 use Rattle.frame_shape.proofs.read_shape.Tie as tie
 
 -- the places of the fields, from where all are read
@@ -38,7 +39,7 @@ returns : tie.Need-returns
 returns c =
     let e = c .before .before in
     let k = rw (e .joint-end .ensures .0) at (c .if1 .taken) in
-    (sym (shape-far _ _ _ _ _ _ _ _ (fields e) k), refl)
+    (sym (shape-read _ _ _ _ _ _ _ _ _ (fields e) (le-leb _ _ k)), refl)
 
 cast-t14 : tie.Need-cast-t14
 cast-t14 c =
@@ -52,7 +53,7 @@ returns-2 c =
     let e = b .before .before in
     let k = rw (e .joint-end .ensures .0) at (b .if1 .left) in
     let f = fields e in (
-      sym (shape-done _ _ _ _ _ _ _ _ f k),
+      sym (shape-read _ _ _ _ _ _ _ _ _ f (lt-leb _ _ k)),
       omega (arith, f .low .next, f .high .next, f .mode .next, f .gain .next, f .sign .next, f .joint .next, f .mode .below),
     )
 
