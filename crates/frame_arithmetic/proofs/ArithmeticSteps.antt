@@ -111,7 +111,7 @@ Answered o j spectrum spectrum′ residual residual′ =
     Answers (told o) j spectrum spectrum′ residual residual′ × Bounded (told o) spectrum′
 
 -- a refusal is bounded by its cause alone
-pub refused-bounds : (g : Given) (lines : List ℤ) → 1 ≤ g .number → (g .number ≡ 5 → 1 ≤ g .cause) → g .cause ≤ 7 → Bounded g lines
+refused-bounds : (g : Given) (lines : List ℤ) → 1 ≤ g .number → (g .number ≡ 5 → 1 ≤ g .cause) → g .cause ≤ 7 → Bounded g lines
 refused-bounds g lines h a b =
     record { symbols = λ z. absurd (omega arith); values = λ z. absurd (omega arith); cause-from = a; cause-to = b }
 

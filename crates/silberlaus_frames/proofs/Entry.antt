@@ -12,10 +12,10 @@ use lib.IntN.{ℤ}
 use borrow.Author.Tests.{le-leb, ltb-true, ltb-false, eq-eqb, ne-eqb}
 use Rattle.frame_settings.specs.Settings.{rateOf, linesAt, lineCount}
 use Rattle.frame_settings.proofs.Rates.{rate-unknown}
-use Rattle.frame_arithmetic.specs.Answers.{Judged, refused, judgedRead, Given, told, givenOf, refusedWith, Answers}
+use Rattle.frame_arithmetic.specs.Answers.{Judged, refused, judgedRead, Given, told, refusedWith, Answers}
 use Rattle.frame.specs.Frame.{judgedAt, judgedOf, frameOf}
 use Rattle.frame_arithmetic.specs.Sound.{Bounded}
-use Rattle.frame_arithmetic.proofs.ArithmeticSteps.{refused-bounds}
+use Rattle.frame_arithmetic.proofs.ArithmeticSteps.{answers-refused}
 use Rattle.frame_settings.specs.declared.Setting.{Setting}
 use Rattle.frame_settings.specs.declared.Rate.{Rate}
 use Rattle.frame_settings.specs.declared.Rate.the-variants as rate
@@ -39,10 +39,7 @@ Answered o j lines lines′ bits bits′ =
 pub refusal :
     (j : Judged) (n : ℕ) (o : SilberlausFrame) (lines : List ℤ) (bits : List ℕ) → j ≡ refused n 0 → 1 ≤ n → (n ≡ 5 → ⊥)
     → frameGiven o ≡ refusedWith n 0 → Answered o j lines lines bits bits
-unfolding givenOf
-refusal j n o lines bits e h k g =
-    let b : Bounded (refusedWith n 0) lines = refused-bounds (refusedWith n 0) lines h (λ z. absurd (k z)) (omega arith) in
-    rw e (record { given = g; lines = refl; bits = refl }, subst (λ (x : Given). Bounded x lines) (sym g) b)
+refusal j n o lines bits e h k g = answers-refused (frameGiven o) j n 0 lines bits g e h (λ z. absurd (k z)) (omega arith)
 
 pub reading :
     (j k : Judged) (r : Reading) (o : SilberlausFrame) (lines lines′ : List ℤ) (bits bits′ : List ℕ) → k ≡ j → frameGiven o ≡ told r

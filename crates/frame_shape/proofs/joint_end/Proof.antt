@@ -1,4 +1,4 @@
--- `frame_side::joint_end` meets its contract. Assumes nothing.
+-- `frame_shape::joint_end` meets its contract. Assumes nothing.
 use native.Mathlib.Omega.{arith}
 use borrow.Author.Tests.{eq-eqb, ne-eqb}
 use Rattle.frame_shape.proofs.joint_end.Statement.{statement}
