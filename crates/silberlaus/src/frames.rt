@@ -1,5 +1,5 @@
 // A frame read into its fields under C names, lent as it is or as an entry of a record, and the number of lines. It stands over
-// `silberlaus_frames`.
+// `silberlaus_sizes` and `silberlaus_frames`.
 ghost use mathlib.Core.Path.{_≡_};
 ghost use lib.ListN.{length};
 ghost use Rattle.frame_settings.specs.Settings.{lineCount};
@@ -14,7 +14,7 @@ use silberlaus_frames::SilberlausFrame;
 pub extern "C" fn silberlaus_line_count(khz: u32) -> usize
     ensures { λ r. ⌜ r ≡ lineCount khz ⌝ }
 {
-    frame::line_count(khz)
+    silberlaus_sizes::line_count(khz)
 }
 
 // A frame read, or refused with 1, 2 or 5.

@@ -1,4 +1,5 @@
-// A slot of Annex A.1 under C names: its frame's size, protecting and unprotecting. It stands over `silberlaus_slots`.
+// A slot of Annex A.1 under C names: its frame's size, protecting and unprotecting. It stands over
+// `silberlaus_sizes` and `silberlaus_slots`.
 ghost use Rattle.slot_laws.specs.Sizes.{IsFrameSize};
 ghost use Rattle.slot_protection.specs.Protect.{Protects};
 ghost use Rattle.slot.specs.Unprotect.{Recordable, Unprotects};
@@ -10,7 +11,7 @@ use silberlaus_slots::SilberlausUnprotected;
 pub extern "C" fn silberlaus_frame_size(size: usize, mode: u32) -> usize
     ensures { λ r. ⌜ IsFrameSize size mode r ⌝ }
 {
-    slot::frame_size(size, mode)
+    silberlaus_sizes::frame_size(size, mode)
 }
 
 // A slot made of a frame and a request, or 1 or 2.
