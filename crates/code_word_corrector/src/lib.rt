@@ -4,14 +4,15 @@
 // Inner: `code_word` stands over it. It asks for the locator's table, for t from 1 to 3 and for words of at most 15 semi-octets.
 ghost use mathlib.Core.Bool.{cond};
 ghost use mathlib.Core.Path.{_≡_};
-ghost use Prim.Native.Nat.{_+_, _%_, _^_, _≤_, _<_};
+ghost use Prim.Native.Nat.{_+_, _^_, _≤_, _<_};
 ghost use lib.Dec.{ltb};
 ghost use lib.ListN.{length};
 ghost use Rattle.laws.specs.Decides.{Decides};
 ghost use Rattle.code_word_laws.specs.Word.{SemiOctets};
 ghost use Rattle.code_word_laws.specs.Correct.{WordCorrected, EachCorrected};
 ghost use Rattle.code_word_laws.specs.Corrector.{TableFor, WordFor, Started, Syndromes, Transformed, ErrorWord, Acceptable, Dealt, Tried};
-ghost use Rattle.code_word_laws.specs.Corrector.{bothOf, IsTakenOff};
+ghost use Rattle.code_word_laws.specs.Corrector.{Table, IsTakenOff};
+use code_word_locator::both_counts;
 use code_word_locator::clear;
 use code_word_locator::find_locator;
 use code_word_locator::inverted;
@@ -20,7 +21,6 @@ use code_word_locator::row;
 use code_word_locator::syndromes;
 use code_word_locator::times;
 use code_word_locator::tripled;
-use widening::wide;
 
 // The error values, packed: fifteen sums by the locator, each transformed back as it is made.
 fn errors(t: &[u32; 512], r1: u8, r2: u8, r3: u8, s1: u8, s2: u8, u: u8) -> u64
@@ -54,47 +54,19 @@ fn error_word(t: &[u32; 512], s: u64, most: u8) -> u64
     errors(t, r.0, r.1, r.2, s1, s2, r.3)
 }
 
-// What an error counts, by its value: 1 as a changed semi-octet, and 16 for each of its ones.
-const COUNTS: [u16; 16] = [
-    0,
-    17,
-    17,
-    33,
-    17,
-    33,
-    33,
-    49,
-    17,
-    33,
-    33,
-    49,
-    33,
-    49,
-    49,
-    65,
-];
-
-// Both counts of the error in the low four bits of v, in one number, so that one loop and one sum count semi-octets and bits.
-fn both_counts(v: u8) -> u16
-    ensures { λ r. ⌜ r ≡ bothOf (v % 16) ⌝ }
-    ensures { λ r. ⌜ r ≤ 65 ⌝ }
-{
-    let at = wide(v % 16);
-    COUNTS[at]
-}
-
 // Takes the errors off, and counts them: the changed semi-octets, and 16 times the changed bits.
-fn take_off(word: &mut [u8], e: u64) -> u16
+fn take_off(t: &[u32; 512], word: &mut [u8], e: u64) -> u32
+    requires { ⌜ Table (now t) ⌝ }
     requires { ⌜ length (now word) ≤ 15 ⌝ }
     ensures { λ r. ⌜ IsTakenOff (now (word .entry)) e (now (word .exit)) r ⌝ }
 {
     let mut rest = e;
-    let mut both: u16 = 0;
+    let mut both: u32 = 0;
     let mut i = 0;
     while i < word.len() {
         let digit = (rest % 16) as u8;
         word[i] = word[i] ^ digit;
-        both = both + both_counts(digit);
+        both = both + both_counts(t, digit);
         rest = rest / 16;
         i += 1;
     }
@@ -132,7 +104,7 @@ fn correct_one(t: &[u32; 512], word: &mut [u8], s: u64, most: u8) -> u8
     if clear(s ^ row(t, k, v), most) {
         let new = word[k] ^ v;
         word[k] = new;
-        return (both_counts(v) / 16) as u8;
+        return (both_counts(t, v) / 16) as u8;
     }
     0
 }
@@ -158,7 +130,7 @@ pub fn correct_word(t: &[u32; 512], word: &mut [u8], most: u8) -> Changes
         return Changes { count: 1, bits };
     }
     let e = error_word(t, s, most);
-    let both = take_off(word, e);
+    let both = take_off(t, word, e);
     let count = (both % 16) as u8;
     if accepted(t, word, most, count) {
         return Changes {
@@ -166,7 +138,7 @@ pub fn correct_word(t: &[u32; 512], word: &mut [u8], most: u8) -> Changes
             bits: (both / 16) as u8,
         };
     }
-    take_off(word, e);
+    take_off(t, word, e);
     Changes {
         count: most + 1,
         bits: 0,

@@ -18,11 +18,20 @@ use Rattle.code_word_laws.specs.Packed.{nibble}
 abbrev pub numberAt : List ℕ → ℕ → ℕ
 numberAt t i = getD t (2 * i) 0 + getD t (2 * i + 1) 0 * 4294967296
 
+-- both counts of a semi-octet in one number: its bits 16 times
+abbrev pub bothChanged : ℕ → ℕ → ℕ
+bothChanged x y = semiOctetChanged x y + 16 * bitsChanged x y
+
+-- those of an error of this value
+unfoldable pub bothOf : ℕ → ℕ
+bothOf v = unequal (eqb v 0) + 16 * ones v
+
 -- the table that the steps are lent: number 16 a + b has the digits b times 2^(a j) for j below 15, and a times b as digit 15, the highest
--- of its high half
+-- of its high half; the low half of number 240 + b has both counts of an error of value b
 pub record Table (t : List ℕ) : Type 0 where
   pub spread : (a b j : ℕ) → a < 15 → b < 16 → j < 15 → nibble j (numberAt t (16 * a + b)) ≡ product b (power (power 2 a) j)
   pub times : (a b : ℕ) → a < 16 → b < 16 → getD t (2 * (16 * a + b) + 1) 0 / 268435456 ≡ product a b
+  pub counts : (v : ℕ) → v < 16 → getD t (2 * (240 + v)) 0 ≡ bothOf v
 
 -- the digits of r are x times 2^(a j)
 abbrev pub Row : ℕ → ℕ → ℕ → Type 0
@@ -155,14 +164,6 @@ pub record Dealt (many n long over : ℕ) : Type 0 where
 abbrev pub takenOff : List ℕ → ℕ → List ℕ
 takenOff [] e = []
 takenOff (c ∷ cs) e = sum c (e % 16) ∷ takenOff cs (e / 16)
-
--- both counts of a semi-octet in one number: its bits 16 times
-abbrev pub bothChanged : ℕ → ℕ → ℕ
-bothChanged x y = semiOctetChanged x y + 16 * bitsChanged x y
-
--- those of an error of this value
-unfoldable pub bothOf : ℕ → ℕ
-bothOf v = unequal (eqb v 0) + 16 * ones v
 
 -- the errors in the digits of e are taken off, and both counts of them are in one number
 pub record IsTakenOff (old : List ℕ) (e : ℕ) (new : List ℕ) (both : ℕ) : Type 0 where

@@ -6,15 +6,15 @@ use mathlib.Core.List.{List}
 use Prim.Native.Nat.{ℕ, zero, suc, _+_, _*_, _/_, _%_, _^_, _<_}
 use native.Mathlib.Omega.{arith}
 use native.Mathlib.Nat.{pow-suc, div-div-eq-div-mul, mul-comm}
-use lib.Dec.{ltb}
+use lib.Dec.{eqb, ltb}
 use lib.ListN.{getD}
-use borrow.Author.Tests.{lt-ltb}
+use borrow.Author.Tests.{lt-ltb, ne-eqb}
 use Rattle.laws.specs.Tab.{tab}
 use Rattle.laws.proofs.Tab.{getD-tab}
 use Rattle.gf16.specs.Field.{product, power}
 use Rattle.gf16.proofs.Products.{looked, product-looked, looked-lt}
 use Rattle.code_word_laws.specs.Packed.{nibble, packed}
-use Rattle.code_word_laws.specs.Corrector.{Table, numberAt}
+use Rattle.code_word_laws.specs.Corrector.{bothOf, Table, numberAt}
 use Rattle.code_word_laws.proofs.Packed.{nibble-packed}
 
 -- the power, computed on numbers
@@ -38,20 +38,28 @@ packedHalf x y b h = packed (λ j. digit x y b (8 * h + j)) 8
 abbrev pub half : ℕ → ℕ → ℕ → ℕ
 half a b h = packedHalf (quick 2 a) (looked (a % 16) (b % 16)) b h
 
+-- .. but at a = 15 the low half has both counts of an error of value b
+abbrev pub halfOf : ℕ → ℕ → ℕ → ℕ
+halfOf a b h = cond (eqb (2 * a + h) 30) (bothOf b) (half a b h)
+
 -- the halves one after the other, the low one first
 abbrev pub entryOf : ℕ → ℕ
-entryOf p = half (p / 2 / 16) (p / 2 % 16) (p % 2)
+entryOf p = halfOf (p / 2 / 16) (p / 2 % 16) (p % 2)
 
 unfoldable pub entries : List ℕ
 entries = tab entryOf 512
 
-entry-at : (a b h p : ℕ) → a < 16 → b < 16 → h < 2 → p ≡ 2 * (16 * a + b) + h → getD entries p 0 ≡ half a b h
+entry-of : (a b h p : ℕ) → a < 16 → b < 16 → h < 2 → p ≡ 2 * (16 * a + b) + h → getD entries p 0 ≡ halfOf a b h
 unfolding entries
-entry-at a b h p ha hb hh e =
+entry-of a b h p ha hb hh e =
     let q : p / 2 / 16 ≡ a = omega arith in
     let r : p / 2 % 16 ≡ b = omega arith in
     let o : p % 2 ≡ h = omega arith in
-    getD-tab entryOf 512 p (omega arith) ∙ ap₂ (λ (x y : ℕ). half x y (p % 2)) q r ∙ ap (half a b) o
+    getD-tab entryOf 512 p (omega arith) ∙ ap₂ (λ (x y : ℕ). halfOf x y (p % 2)) q r ∙ ap (halfOf a b) o
+
+entry-at : (a b h p : ℕ) → a < 16 → b < 16 → h < 2 → (2 * a + h ≡ 30 → ⊥) → p ≡ 2 * (16 * a + b) + h → getD entries p 0 ≡ half a b h
+entry-at a b h p ha hb hh n e =
+    entry-of a b h p ha hb hh e ∙ ap (λ (c : Bool). cond c (bothOf b) (half a b h)) (ne-eqb (2 * a + h) 30 n)
 
 abbrev cell : ℕ → ℕ → ℕ → ℕ
 cell a b = digit (quick 2 a) (looked (a % 16) (b % 16)) b
@@ -72,9 +80,10 @@ cell-spread a b j =
 halves : (f : ℕ → ℕ) → packed (λ j. f (8 * 0 + j)) 8 + packed (λ j. f (8 * 1 + j)) 8 * 4294967296 ≡ packed f 16
 halves f = omega arith
 
-number-at : (a b : ℕ) → a < 16 → b < 16 → numberAt entries (16 * a + b) ≡ packed (cell a b) 16
+number-at : (a b : ℕ) → a < 15 → b < 16 → numberAt entries (16 * a + b) ≡ packed (cell a b) 16
 number-at a b ha hb =
-    ap₂ (λ (x y : ℕ). x + y * 4294967296) (entry-at a b 0 _ ha hb (omega arith) (omega arith)) (entry-at a b 1 _ ha hb (omega arith) refl)
+    ap₂ (λ (x y : ℕ). x + y * 4294967296) (entry-at a b 0 _ (omega arith) hb (omega arith) (λ e. omega arith) (omega arith))
+    (entry-at a b 1 _ (omega arith) hb (omega arith) (λ e. omega arith) refl)
     ∙ halves (cell a b)
 
 -- the highest digit of a packed number
@@ -92,12 +101,13 @@ pub table-of-entries : Table entries
 table-of-entries =
     record {
       spread = λ a b j ha hb hj.
-          ap (λ (x : ℕ). nibble j x) (number-at a b (omega arith) hb)
+          ap (λ (x : ℕ). nibble j x) (number-at a b ha hb)
           ∙ nibble-packed (cell a b) 16 j (cell-lt a b) (omega arith)
           ∙ ap (λ (c : Bool). cond c (looked (b % 16) (quick (quick 2 a) j % 16)) (looked (a % 16) (b % 16))) (lt-ltb j 15 hj)
           ∙ cell-spread a b j;
       times = λ a b ha hb.
-          ap (λ (x : ℕ). x / 268435456) (entry-at a b 1 _ ha hb (omega arith) refl)
+          ap (λ (x : ℕ). x / 268435456) (entry-at a b 1 _ ha hb (omega arith) (λ e. omega arith) refl)
           ∙ packed-top (λ j. cell a b (8 * 1 + j)) 7 (λ j. cell-lt a b (8 * 1 + j))
           ∙ sym (product-looked a b);
+      counts = λ v h. entry-of 15 v 0 (2 * (240 + v)) (omega arith) h (omega arith) (omega arith);
     }

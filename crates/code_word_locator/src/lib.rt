@@ -6,19 +6,20 @@
 ghost use mathlib.Core.Path.{_≡_};
 ghost use mathlib.Core.Logic.{_≢_};
 ghost use mathlib.Core.List.{[], _∷_};
-ghost use Prim.Native.Nat.{_+_, _^_, _≤_, _<_};
+ghost use Prim.Native.Nat.{_+_, _%_, _^_, _≤_, _<_};
 ghost use lib.ListN.{length};
 ghost use Rattle.laws.specs.Decides.{Decides};
 ghost use Rattle.gf16.specs.Field.{product, power, inverse};
 ghost use Rattle.code_word_laws.specs.Word.{SemiOctets};
-ghost use Rattle.code_word_laws.specs.Corrector.{Table, TableFor, Row, Syndromes, Clear, IsLocator, minorTwo, triple};
+ghost use Rattle.code_word_laws.specs.Corrector.{bothOf, Table, TableFor, Row, Syndromes, Clear, IsLocator, minorTwo, triple};
 ghost use Rattle.code_word_laws.specs.Corrector.{ThirdMinorZero, MinorsZero, ThirdMinor, SecondMinor};
 use widening::long;
 use widening::wide;
 
 // Number 16 a + b: the digits from the lowest on are b times 2^(a j) for j = 0 .. 14, and the highest is a times b.
 // Its low half is entry 2 (16 a + b) and its high half the next: halves of 32 bits are built sixteen bytes at a time, numbers of 64 bits
-// one by one.
+// one by one. At a = 15 no digit but the highest is read, so the low halves there have both counts of an error of value b: 1 as a
+// changed semi-octet, and 16 for each of its ones.
 const TABLE: [u32; 512] = [
     0x00000000,
     0x00000000,
@@ -502,35 +503,35 @@ const TABLE: [u32; 512] = [
     0x5d912483,
     0x00000000,
     0x00000000,
-    0x11111111,
+    0x00000011,
     0xf1111111,
-    0x22222222,
+    0x00000011,
     0xd2222222,
-    0x33333333,
+    0x00000021,
     0x23333333,
-    0x44444444,
+    0x00000011,
     0x94444444,
-    0x55555555,
+    0x00000021,
     0x65555555,
-    0x66666666,
+    0x00000021,
     0x46666666,
-    0x77777777,
+    0x00000031,
     0xb7777777,
-    0x88888888,
+    0x00000011,
     0x18888888,
-    0x99999999,
+    0x00000021,
     0xe9999999,
-    0xaaaaaaaa,
+    0x00000021,
     0xcaaaaaaa,
-    0xbbbbbbbb,
+    0x00000031,
     0x3bbbbbbb,
-    0xcccccccc,
+    0x00000021,
     0x8ccccccc,
-    0xdddddddd,
+    0x00000031,
     0x7ddddddd,
-    0xeeeeeeee,
+    0x00000031,
     0x5eeeeeee,
-    0xffffffff,
+    0x00000041,
     0xafffffff,
 ];
 
@@ -550,6 +551,16 @@ pub fn times(t: &[u32; 512], a: u8, b: u8) -> u8
 {
     let at = wide(16 * a + b);
     (t[2 * at + 1] / 268435456) as u8
+}
+
+// Both counts of the error in the low four bits of v, from the table: one number, so that one sum counts semi-octets and bits.
+pub fn both_counts(t: &[u32; 512], v: u8) -> u32
+    requires { ⌜ Table (now t) ⌝ }
+    ensures { λ r. ⌜ r ≡ bothOf (v % 16) ⌝ }
+    ensures { λ r. ⌜ r ≤ 65 ⌝ }
+{
+    let at = wide(240 + v % 16);
+    t[2 * at]
 }
 
 // x times 2^(a j) for each j, packed.

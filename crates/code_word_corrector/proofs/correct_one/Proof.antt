@@ -55,5 +55,5 @@ correct-one-spec =
     (tie.spec
     (λ c. search needs) (λ c. search needs) (λ c κs. search needs) (λ c κs. search needs) times-requires-2
     returns (λ c κs. search needs) (λ c κs. search needs) logarithm-requires returns-2 row-requires
-    (λ c κs. search needs) (λ c. search needs) (λ c. search needs) (λ c κs. search needs) cast-result
-    (λ c. search needs) returns-3 returns-4)
+    (λ c κs. search needs) (λ c. search needs) (λ c. search needs) (λ c κs. search needs)
+    cast-result (λ c. search needs) returns-3 returns-4)

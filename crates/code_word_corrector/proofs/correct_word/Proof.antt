@@ -33,7 +33,7 @@ accepted-requires c κs =
     let m = g .before .before .before .before in
     let a = m .before .before .before .before .before .before .before in
     let p = a .pre in
-    let e : o .last .0 ≡ takenOff (a .args .word .now) (g .error-word .result) = o .ensures .word-is
+    let e : o .last .1 .0 ≡ takenOff (a .args .word .now) (g .error-word .result) = o .ensures .word-is
     ∙ ap (λ (l : List ℕ). takenOff l (g .error-word .result)) (m .correct-one .ensures .kept (g .before .if2 .left)) in
     record {
       table = p .table;
@@ -55,10 +55,10 @@ returns-3 c =
     let p = a .pre in
     let k = m .correct-one .ensures .kept (g .before .if2 .left) in
     correct-word-accepted (a .args .most) (a .args .word .now) (p .most-to) (p .short) (p .semi-octets) (g .error-word .result)
-    (o .result % 16) (o .last .0)
+    (o .result % 16) (o .last .1 .0)
     (o .ensures .word-is ∙ ap (λ (l : List ℕ). takenOff l (g .error-word .result)) k)
-    (o .ensures .counted ∙ ap (λ (l : List ℕ). apart l (o .last .0)) k) (c .before .accepted .ensures) (o .result / 16)
-    (o .ensures .bits-counted ∙ ap (λ (l : List ℕ). bitsApart l (o .last .0)) k) (c .if3 .taken)
+    (o .ensures .counted ∙ ap (λ (l : List ℕ). apart l (o .last .1 .0)) k) (c .before .accepted .ensures) (o .result / 16)
+    (o .ensures .bits-counted ∙ ap (λ (l : List ℕ). bitsApart l (o .last .1 .0)) k) (c .if3 .taken)
 
 returns-4 : tie.Need-returns-4
 returns-4 c =
@@ -72,10 +72,10 @@ returns-4 c =
     let p = a .pre in
     let k = m .correct-one .ensures .kept (g .before .if2 .left) in
     correct-word-refused (a .args .most) (a .args .word .now) (p .most-to) (p .short) (p .semi-octets) (g .error-word .result)
-    (o .result % 16) (o .last .0)
+    (o .result % 16) (o .last .1 .0)
     (o .ensures .word-is ∙ ap (λ (l : List ℕ). takenOff l (g .error-word .result)) k)
-    (o .ensures .counted ∙ ap (λ (l : List ℕ). apart l (o .last .0)) k) (d .before .accepted .ensures) (s .syndromes .result) _
-    (z .last .0) (z .ensures .word-is) (omega arith) (s .syndromes .ensures) (g .error-word .ensures) (d .if3 .left)
+    (o .ensures .counted ∙ ap (λ (l : List ℕ). apart l (o .last .1 .0)) k) (d .before .accepted .ensures) (s .syndromes .result) _
+    (z .last .1 .0) (z .ensures .word-is) (omega arith) (s .syndromes .ensures) (g .error-word .ensures) (d .if3 .left)
 
 pub correct-word-spec : {M : Type 1} → statement M
 correct-word-spec =

@@ -12,17 +12,17 @@ use Rattle.code_word_corrector.proofs.take_off.Statement.{statement}
 use Rattle.code_word_corrector.proofs.take_off.Tie as tie
 
 abbrev Inv-loop : tie.InvT-loop
-Inv-loop word₀ e rest₀ both₀ i₀ word rest both i =
+Inv-loop t word₀ e rest₀ both₀ i₀ word rest both i =
     (i ≤ length word₀) × (both ≤ 65 * i) × TakenTo bothChanged word₀ e i rest both word
 
 abbrev μ-loop : tie.MeasureT-loop
-μ-loop word₀ e rest₀ both₀ i₀ word rest both i = length word₀ - i
+μ-loop t word₀ e rest₀ both₀ i₀ word rest both i = length word₀ - i
 
 loop-holds : tie.Need-loop-holds Inv-loop μ-loop
 loop-holds c = (search needs, omega arith, taken-first bothChanged (c .before .args .word .now) (c .before .args .e))
 
 add-both : tie.Need-add-both Inv-loop μ-loop
-add-both c = record { fits = omega (arith, c .before .before .before .loop .inv .1, c .both-counts .ensures .1, c .before .before .before .before .before .pre) }
+add-both c = record { fits = omega (arith, c .before .before .before .loop .inv .1, c .both-counts .ensures .1, c .before .before .before .before .before .pre .1) }
 
 loop-again : tie.Need-loop-again Inv-loop μ-loop
 loop-again c =
@@ -45,7 +45,7 @@ returns c =
     let a = s .args in
     let t = taken-last bothChanged (a .word .now) (a .e) (h .loop .i) (h .loop .rest) (h .loop .both) (h .loop .word) (h .loop .inv .2)
     (omega arith) in
-    let b = both-apart (a .word .now) (h .loop .word) (h .loop .both) (s .pre) (t .1) in
+    let b = both-apart (a .word .now) (h .loop .word) (h .loop .both) (s .pre .1) (t .1) in
     record { word-is = t .0; counted = b .0; bits-counted = b .1; few = omega (arith, h .loop .inv .0, h .loop .inv .1) }
 
 pub take-off-spec : {M : Type 1} → statement M
