@@ -14,10 +14,8 @@ use Rattle.record_bytes.specs.declared.Walked.the-variants as walked
 use Rattle.record_bytes.specs.Layout.{RecordEntry, big, trailer, entryBytes, entriesBytes, recordBytes, inRange, AllInRange, IsRecord, most}
 use Rattle.record_bytes.specs.Reading.{readRecord}
 use Rattle.record_bytes.specs.Located.{located, nowhere, locate}
+use Rattle.record_answers.specs.Answers.{accepted, refused, EntryAnswer}
 use Rattle.record.specs.Answers.{
-  accepted,
-  refused,
-  EntryAnswer,
   newNumber,
   newBuffer,
   entriesOf,

@@ -26,10 +26,8 @@ use Rattle.record_bytes.specs.Layout.{
 }
 use Rattle.record_bytes.specs.Reading.{number, readRecord}
 use Rattle.record_bytes.specs.Located.{located, locate}
+use Rattle.record_answers.specs.Answers.{Answer, accepted, refused}
 use Rattle.record.specs.Answers.{
-  Answer,
-  accepted,
-  refused,
   entriesOf,
   entriesAnswer,
   entryAnswer,

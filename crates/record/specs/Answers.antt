@@ -1,4 +1,4 @@
--- What each function answers: document 01's number with the values beside it, for each case of its answer and for all input.
+-- What each function answers for all input: document 01's number with the values beside it, and the buffer that it leaves.
 -- A refusal returns its number, zero in every other field, and no lent byte is changed. Assumes nothing.
 use mathlib.Core.Bool.{Bool, _&&_, cond}
 use mathlib.Core.Option.{Option, none, some}
@@ -8,53 +8,8 @@ use lib.ListN.{length, take, drop}
 use lib.Dec.{leb, ltb, eqb}
 use Rattle.record_bytes.specs.Layout.{RecordEntry, recordBytes, inRange, most}
 use Rattle.record_bytes.specs.Reading.{readRecord}
-use Rattle.record.specs.declared.Made.{Made}
-use Rattle.record.specs.declared.Made.the-variants as made
-use Rattle.record.specs.declared.Counted.{Counted}
-use Rattle.record.specs.declared.Counted.the-variants as counted
-use Rattle.record.specs.declared.Found.{Found}
-use Rattle.record.specs.declared.Found.the-variants as found
-use Rattle.record.specs.declared.Added.{Added}
-use Rattle.record.specs.declared.Added.the-variants as added
-use Rattle.record_bytes.specs.declared.Located.{Located}
 use Rattle.record_bytes.specs.Located.{nowhere, locate}
-
--- a number of document 01, and the one value that goes with it
-pub record Answer : Type 0 where
-  pub number : ℕ
-  pub value : ℕ
-
-abbrev pub accepted : ℕ → Answer
-accepted v = record { number = 0; value = v }
-
-abbrev pub refused : ℕ → Answer
-refused n = record { number = n; value = 0 }
-
--- a number of document 01, and an entry's start, length, request and count
-pub record EntryAnswer : Type 0 where
-  pub number : ℕ
-  pub entry : Located
-
-abbrev pub madeNumber : Made → ℕ
-madeNumber made.Empty = 0
-madeNumber made.NoRoom = 6
-
--- the value is the number of entries
-abbrev pub countedAnswer : Counted → Answer
-countedAnswer (counted.Entries n) = accepted n
-countedAnswer counted.NotRecord = refused 7
-
-abbrev pub foundAnswer : Found → EntryAnswer
-foundAnswer (found.At e) = record { number = 0; entry = e }
-foundAnswer found.NotRecord = record { number = 7; entry = nowhere }
-foundAnswer found.NoPlace = record { number = 1; entry = nowhere }
-
--- the value is the new used length
-abbrev pub addedAnswer : Added → Answer
-addedAnswer (added.Used n) = accepted n
-addedAnswer added.BadSetting = refused 1
-addedAnswer added.NotRecord = refused 7
-addedAnswer added.NoRoom = refused 6
+use Rattle.record_answers.specs.Answers.{Answer, accepted, refused, EntryAnswer}
 
 -- "in a buffer shorter than 4 gives 6"
 unfoldable pub newNumber : List ℕ → ℕ

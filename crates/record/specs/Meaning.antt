@@ -5,7 +5,8 @@ use mathlib.Core.List.{List}
 use Prim.Native.Nat.{ℕ, zero, suc, _-_, _<_}
 use lib.ListN.{length, take, drop}
 use Rattle.record_bytes.specs.Layout.{RecordEntry, entryBytes, IsRecord}
-use Rattle.record.specs.Answers.{Answer, accepted, EntryAnswer, entriesAnswer, entryAnswer, framePart}
+use Rattle.record_answers.specs.Answers.{Answer, accepted, EntryAnswer}
+use Rattle.record.specs.Answers.{entriesAnswer, entryAnswer, framePart}
 use Rattle.record_bytes.specs.Located.{located}
 
 abbrev pub Counts : ℕ → ℕ → List ℕ → Type 0

@@ -1,10 +1,16 @@
 // The session record of document 01: entries of a frame, a request and a count, one after the other, then their number.
-// It stands over `record_bytes`. Each public function is total and equals its definition in specs/Answers.antt, the lent buffer too;
-// specs/Layout.antt of `record_bytes` says which bytes a list of entries is. Nothing is written before the last test.
+// It stands over `record_bytes`, and its answers are those of `record_answers`. Each public function is total and equals its definition in
+// specs/Answers.antt, the lent buffer too; specs/Layout.antt of `record_bytes` says which bytes a list of entries is. Nothing is written
+// before the last test.
 ghost use mathlib.Core.Path.{_≡_};
-ghost use Rattle.record.specs.Answers.{madeNumber, newNumber, newBuffer, countedAnswer, entriesAnswer, foundAnswer};
-ghost use Rattle.record.specs.Answers.{entryAnswer, framePart, mayAddTo, addedAnswer, addAnswer, addBuffer, asked};
+ghost use Rattle.record_answers.specs.Answers.{madeNumber, countedAnswer, foundAnswer, addedAnswer};
+ghost use Rattle.record.specs.Answers.{newNumber, newBuffer, entriesAnswer, entryAnswer, framePart, mayAddTo};
+ghost use Rattle.record.specs.Answers.{addAnswer, addBuffer, asked};
 ghost use Rattle.record.specs.Meaning.{CountMeans, StoredBy};
+pub use record_answers::Added;
+pub use record_answers::Counted;
+pub use record_answers::Found;
+pub use record_answers::Made;
 pub use record_bytes::Located;
 use record_bytes::Walked;
 use record_bytes::copy_in;
@@ -14,84 +20,6 @@ use record_bytes::tail;
 use record_bytes::walk;
 use widening::wide2;
 use widening::wide4;
-
-// What making a record answers.
-pub enum Made {
-    Empty,
-    NoRoom,
-}
-
-impl Made {
-    // Document 01's number.
-    pub fn number(self) -> u8
-        ensures { λ r. ⌜ r ≡ madeNumber self ⌝ }
-    {
-        match self {
-            Made::Empty => 0,
-            Made::NoRoom => 6,
-        }
-    }
-}
-
-// What asking for the number of entries answers.
-pub enum Counted {
-    Entries(u32),
-    NotRecord,
-}
-
-impl Counted {
-    // Document 01's number.
-    pub fn number(self) -> u8
-        ensures { λ r. ⌜ r ≡ countedAnswer self .number ⌝ }
-    {
-        match self {
-            Counted::Entries(_) => 0,
-            Counted::NotRecord => 7,
-        }
-    }
-}
-
-// What asking for an entry answers.
-pub enum Found {
-    At(Located),
-    NotRecord,
-    NoPlace,
-}
-
-impl Found {
-    // Document 01's number.
-    pub fn number(self) -> u8
-        ensures { λ r. ⌜ r ≡ foundAnswer self .number ⌝ }
-    {
-        match self {
-            Found::At(_) => 0,
-            Found::NotRecord => 7,
-            Found::NoPlace => 1,
-        }
-    }
-}
-
-// What adding an entry answers: the new used length, or a refusal.
-pub enum Added {
-    Used(u32),
-    BadSetting,
-    NotRecord,
-    NoRoom,
-}
-
-impl Added {
-    // Document 01's number.
-    pub fn number(self) -> u8
-        ensures { λ r. ⌜ r ≡ addedAnswer self .number ⌝ }
-    {
-        match self {
-            Added::Used(_) => 0,
-            Added::BadSetting => 1,
-            Added::NotRecord => 7,
-            Added::NoRoom => 6,
-        }
-    }
-}
 
 // Writes a record of no entries at the start of the buffer.
 pub fn new(buffer: &mut [u8]) -> Made

@@ -1,7 +1,7 @@
 // The bytes of a session record: the walk over it from the end back, one step an entry, and bytes put into a buffer. It stands over
 // nothing. specs/ says which bytes a list of entries is (Layout) and how they are read (Reading); proofs/Inverse.antt shows that reading
 // finds exactly that list.
-// Inner: `record` and `record_listing` stand over it. It asks for places inside the bytes; `walk` asks nothing.
+// Inner: `record_answers`, `record` and `record_listing` stand over it. It asks for places inside the bytes; `walk` asks nothing.
 ghost use mathlib.Core.Path.{_≡_};
 ghost use mathlib.Core.Bool.{cond};
 ghost use Prim.Native.Nat.{_+_, _≤_, _<_};

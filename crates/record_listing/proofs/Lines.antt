@@ -14,7 +14,8 @@ use Rattle.record_bytes.specs.declared.Step.the-variants as step
 use Rattle.record_bytes.specs.Layout.{RecordEntry, big, entriesBytes, entryBytes, recordBytes, AllInRange, IsRecord, most}
 use Rattle.record_bytes.specs.Reading.{number, entryBefore, readBack, readRecord}
 use Rattle.record_bytes.specs.Located.{located}
-use Rattle.record.specs.Answers.{Answer, accepted, refused, entriesOf, entriesAnswer}
+use Rattle.record_answers.specs.Answers.{Answer, accepted, refused}
+use Rattle.record.specs.Answers.{entriesOf, entriesAnswer}
 use Rattle.record_bytes.specs.Steps.{stepOf, put, Placed}
 use Rattle.record_listing.specs.Listing.{
   field,

@@ -7,7 +7,7 @@ use lib.ListN.{length, take}
 use lib.Dec.{leb, eqb}
 use Rattle.record_bytes.specs.Layout.{RecordEntry, most}
 use Rattle.record_bytes.specs.Reading.{readRecord}
-use Rattle.record.specs.Answers.{Answer, accepted, refused}
+use Rattle.record_answers.specs.Answers.{Answer, accepted, refused}
 use Rattle.record_listing.specs.declared.Listed.{Listed}
 use Rattle.record_listing.specs.declared.Listed.the-variants as listed
 

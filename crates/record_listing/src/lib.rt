@@ -3,7 +3,8 @@
 ghost use mathlib.Core.Path.{_≡_};
 ghost use Prim.Native.Nat.{_+_, _≤_, _<_};
 ghost use lib.ListN.{length};
-ghost use Rattle.record.specs.Answers.{accepted, entriesAnswer};
+ghost use Rattle.record_answers.specs.Answers.{accepted};
+ghost use Rattle.record.specs.Answers.{entriesAnswer};
 ghost use Rattle.record_bytes.specs.Steps.{Placed};
 ghost use Rattle.record_listing.specs.Listing.{leading, field, line, linesIn, listedAnswer, listAnswer, listBuffer};
 use record::Counted;

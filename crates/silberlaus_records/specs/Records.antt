@@ -1,6 +1,6 @@
--- The answers of `record` (its specs/Answers.antt) over the fields of the C structs.
+-- The answers of `record` (specs/Answers.antt of `record_answers`) over the fields of the C structs.
 -- Assumes nothing.
-use Rattle.record.specs.Answers.{Answer, EntryAnswer}
+use Rattle.record_answers.specs.Answers.{Answer, EntryAnswer}
 use Rattle.silberlaus_records.specs.declared.SilberlausEntries.{SilberlausEntries}
 use Rattle.silberlaus_records.specs.declared.SilberlausEntry.{SilberlausEntry}
 use Rattle.silberlaus_records.specs.declared.SilberlausAdded.{SilberlausAdded}

@@ -6,7 +6,8 @@ use denote.Ref.{now}
 use borrow.Author.Needs.{needs}
 use Rattle.record.proofs.frame.Tie as tie
 use Rattle.record.proofs.Answered.{FrameIn, frame-found, frame-none}
-use Rattle.record.specs.Answers.{foundAnswer, framePart}
+use Rattle.record_answers.specs.Answers.{foundAnswer}
+use Rattle.record.specs.Answers.{framePart}
 use Rattle.record.proofs.frame.Statement.{statement}
 
 -- the frame of the entry that was found stands in the record

@@ -10,7 +10,8 @@ use Rattle.record_listing.proofs.list.Tie as tie
 use Rattle.record_listing.proofs.Lines.{list-short, list-placed, listing-long, listing-damaged, listing-record}
 use Rattle.record_listing.proofs.Spelling.{placed-before}
 use Rattle.record_listing.specs.Listing.{field, newline, linesIn, records, damaged, tooLong}
-use Rattle.record.specs.Answers.{accepted, refused, countedAnswer, entriesAnswer}
+use Rattle.record_answers.specs.Answers.{accepted, refused, countedAnswer}
+use Rattle.record.specs.Answers.{entriesAnswer}
 use Rattle.record_listing.proofs.list.Statement.{statement}
 
 returns : tie.Need-returns

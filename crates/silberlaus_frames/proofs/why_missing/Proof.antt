@@ -1,6 +1,6 @@
 -- `silberlaus_frames::why_missing` meets its contract. Assumes nothing.
 use mathlib.Core.Path.{ap, _∙_}
-use Rattle.record.specs.Answers.{EntryAnswer}
+use Rattle.record_answers.specs.Answers.{EntryAnswer}
 use borrow.Author.Needs.{needs}
 use Rattle.silberlaus_frames.proofs.why_missing.Statement.{statement}
 use Rattle.silberlaus_frames.proofs.why_missing.Tie as tie

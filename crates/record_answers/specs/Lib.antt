@@ -1,0 +1,2 @@
+-- The numbers and values of what the session record answers.
+pub mod Answers
