@@ -4,7 +4,7 @@
 use mathlib.Core.Path.{_≡_, refl, sym, ap, ap₂, _∙_}
 use mathlib.Core.Logic.{_≢_}
 use mathlib.Core.List.{List, [], _∷_}
-use Prim.Native.Nat.{ℕ, zero, suc, _+_, _/_, _≤_, _<_}
+use Prim.Native.Nat.{ℕ, zero, suc, _+_, _/_, _%_, _≤_, _<_}
 use native.Mathlib.Omega.{arith}
 use native.Mathlib.Nat.{mod-eq-of-lt}
 use lib.Bits.{bitXor}
@@ -31,7 +31,6 @@ use Rattle.code_word_laws.proofs.Changes.{
   changes-self,
   semi-octet-same,
   bits-same,
-  ones-some,
   error-changed,
   error-bits,
   both-bits,
@@ -98,12 +97,11 @@ taken-off-one t old s k v r from to short semi syndromes h l n row clear =
         ∙ clear j p (omega arith)
 
 pub tried-none : (mode : ℕ) (old : List ℕ) → Tried mode old old 0
-tried-none mode old = record { one = λ n. absurd (n refl); kept = λ e. refl }
+tried-none mode old = record { below = omega arith; one = λ n. absurd (n refl); kept = λ e. refl }
 
--- an error has ones
-pub tried-one : (mode : ℕ) (old new : List ℕ) (v b : ℕ) → v < 16 → v ≢ 0 → b ≡ bothOf v → WordCorrected mode old new 1 (ones v)
-    → Tried mode old new (b / 16)
-tried-one mode old new v b l n e m =
-    let is : b / 16 ≡ ones v = ap (λ (x : ℕ). x / 16) e ∙ both-bits v in
-    let some = ones-some v l n in
-    record { one = λ z. rw is m; kept = λ z. absurd (omega arith) }
+pub tried-one : (mode : ℕ) (old new : List ℕ) (v : ℕ) → v < 16 → v ≢ 0 → WordCorrected mode old new 1 (ones v) → Tried mode old new v
+tried-one mode old new v l n m = record { below = l; one = λ z. m; kept = λ z. absurd (n z) }
+
+-- the bits of an error, from both its counts
+pub bits-of : (v b : ℕ) → v < 16 → b ≡ bothOf (v % 16) → b / 16 ≡ ones v
+bits-of v b l e = ap (λ (x : ℕ). x / 16) (e ∙ ap bothOf (mod-eq-of-lt l)) ∙ both-bits v

@@ -85,7 +85,7 @@ fn accepted(t: &[u32; 512], word: &[u8], most: u8, count: u8) -> bool
 }
 
 // Takes one error off, where the syndromes are those of one: its value times its place is s1, and times its place again s2. The answer is
-// its bits, 0 where it is not one error.
+// its value, 0 where it is not one error.
 fn correct_one(t: &[u32; 512], word: &mut [u8], s: u64, most: u8) -> u8
     requires { ⌜ WordFor (now t) (now word) most ⌝ }
     requires { ⌜ Syndromes (now word) s ⌝ }
@@ -104,7 +104,7 @@ fn correct_one(t: &[u32; 512], word: &mut [u8], s: u64, most: u8) -> u8
     if clear(s ^ row(t, k, v), most) {
         let new = word[k] ^ v;
         word[k] = new;
-        return (both_counts(t, v) / 16) as u8;
+        return v;
     }
     0
 }
@@ -125,9 +125,12 @@ pub fn correct_word(t: &[u32; 512], word: &mut [u8], most: u8) -> Changes
     if clear(s, most) {
         return Changes { count: 0, bits: 0 };
     }
-    let bits = correct_one(t, word, s, most);
-    if bits != 0 {
-        return Changes { count: 1, bits };
+    let v = correct_one(t, word, s, most);
+    if v != 0 {
+        return Changes {
+            count: 1,
+            bits: (both_counts(t, v) / 16) as u8,
+        };
     }
     let e = error_word(t, s, most);
     let both = take_off(t, word, e);

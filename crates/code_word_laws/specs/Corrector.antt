@@ -172,7 +172,8 @@ pub record IsTakenOff (old : List ℕ) (e : ℕ) (new : List ℕ) (both : ℕ) :
   pub bits-counted : both / 16 ≡ bitsApart old new
   pub few : both ≤ 975
 
--- a word is corrected by one change, of so many bits, or it is as it was, with none
-pub record Tried (mode : ℕ) (old new : List ℕ) (bits : ℕ) : Type 0 where
-  pub one : bits ≢ 0 → WordCorrected mode old new 1 bits
-  pub kept : bits ≡ 0 → new ≡ old
+-- a word is corrected by taking off one error of the value v, or it is as it was, with v 0
+pub record Tried (mode : ℕ) (old new : List ℕ) (v : ℕ) : Type 0 where
+  pub below : v < 16
+  pub one : v ≢ 0 → WordCorrected mode old new 1 (ones v)
+  pub kept : v ≡ 0 → new ≡ old

@@ -15,7 +15,8 @@ use Rattle.frame_coder.specs.Symbol.{startOf}
 use Rattle.frame_tns.specs.Tns.{Filter, filterOf, filterGiven, unused}
 use Rattle.frame_spectral.specs.Spectral.{Spectral, spectralFrom, spectralGiven}
 use Rattle.frame_arithmetic.specs.Answers.{Whole, arithmeticFrom}
-use Rattle.frame_arithmetic.specs.Answers.{Judged, refused, judgedRead, Given, refusedWith, givenOf, Answers, answered, told}
+use Rattle.frame_arithmetic.specs.Answers.{Judged, refused, judgedRead, givenOf, Answers}
+use Rattle.frame_answers.specs.Answers.{Given, refusedWith, answered, told}
 use Rattle.frame_pairs.specs.Sound.{Small}
 use Rattle.frame_tns.specs.Sound.{TnsTables, GoodFilter}
 use Rattle.frame_spectral.specs.Sound.{GoodSpectral}
@@ -27,9 +28,9 @@ use Rattle.frame_tns.specs.declared.FilterRead.{FilterRead}
 use Rattle.frame_tns.specs.declared.FilterRead.the-variants as filter
 use Rattle.frame_spectral.specs.declared.SpectralRead.{SpectralRead}
 use Rattle.frame_spectral.specs.declared.SpectralRead.the-variants as spectralRead
-use Rattle.frame_arithmetic.specs.declared.Reading.{Reading}
-use Rattle.frame_arithmetic.specs.declared.Answer.{Answer}
-use Rattle.frame_arithmetic.specs.declared.Answer.the-variants as answer
+use Rattle.frame_answers.specs.declared.Reading.{Reading}
+use Rattle.frame_answers.specs.declared.Answer.{Answer}
+use Rattle.frame_answers.specs.declared.Answer.the-variants as answer
 
 -- ---- the tables
 

@@ -4,7 +4,7 @@ use mathlib.Core.List.{List}
 use Prim.Native.Nat.{_+_, _*_, _≤_}
 use lib.IntN.{ℤ}
 use Rattle.frame_pairs.specs.Sound.{Small}
-use Rattle.frame_arithmetic.specs.Answers.{Given}
+use Rattle.frame_answers.specs.Answers.{Given}
 
 -- an accepted frame: "never above 18 + 7 x last line" symbols, values in range; a bit error: a cause from 1 to 7
 pub record Bounded (g : Given) (lines : List ℤ) : Type 0 where

@@ -1,69 +1,23 @@
-// The arithmetic stream of a frame (5.4.2.7): the TNS data of both filters, then the spectral data; and the reader's answer, with document
-// 01's number. The function equals its definition in specs/Answers.antt, which says what each answer is.
-// Inner: `frame` stands over it and hands its answer on to callers. It asks for a known setting, a frame of 20 to 400 bytes, its side
-// information as read, and buffers of its line count.
-ghost use mathlib.Core.Path.{_≡_};
+// The arithmetic stream of a frame (5.4.2.7): the TNS data of both filters, then the spectral data. The function answers what its
+// definition in specs/Answers.antt asks for.
+// Inner: `frame` stands over it. It asks for a known setting, a frame of 20 to 400 bytes, its side information as read, and buffers of its
+// line count.
 ghost use Rattle.frame_settings.specs.Settings.{Known, Sized};
-ghost use Rattle.frame_tns.specs.Tns.{unused};
-ghost use Rattle.frame_arithmetic.specs.Answers.{answered, judgedRead, arithmeticFrom, Answers, told};
+ghost use Rattle.frame_answers.specs.Answers.{told};
+ghost use Rattle.frame_arithmetic.specs.Answers.{judgedRead, arithmeticFrom, Answers};
 ghost use Rattle.frame_side.specs.Sound.{Sided};
 ghost use Rattle.frame_spectral.specs.Sound.{Buffers};
 ghost use Rattle.frame_arithmetic.specs.Sound.{Bounded};
+use frame_answers::Answer;
+use frame_answers::Fields;
+use frame_answers::Reading;
+use frame_answers::refused;
 use frame_settings::Setting;
 use frame_side::Side;
 use frame_spectral::SpectralRead;
 use frame_spectral::read_spectral;
 use frame_tns::FilterRead;
 use frame_tns::filter;
-
-// What an accepted frame says beside its TNS coefficients, spectrum and residual bits.
-pub struct Fields {
-    pub side: Side,
-    pub tns_order_0: u8,
-    pub tns_order_1: u8,
-    pub residual_bits: u16,
-    pub symbols: u16,
-}
-
-// The fields, or document 01's refusal 1, 2 or 5; 5 with its cause.
-pub enum Answer {
-    Read(Fields),
-    Setting,
-    Length,
-    BitError(u8),
-}
-
-impl Answer {
-    // Document 01's number.
-    pub fn number(self) -> u8
-        ensures { λ r. ⌜ r ≡ answered self unused unused .number ⌝ }
-    {
-        match self {
-            Answer::Read(_) => 0,
-            Answer::Setting => 1,
-            Answer::Length => 2,
-            Answer::BitError(_) => 5,
-        }
-    }
-}
-
-// The answer, and beside it each filter's coefficients: 0 from its order on, and all 0 on a refusal.
-pub struct Reading {
-    pub answer: Answer,
-    pub tns_coefficients_0: [u8; 8],
-    pub tns_coefficients_1: [u8; 8],
-}
-
-// A refusal: its answer, and no coefficient.
-pub fn refused(answer: Answer) -> Reading
-    ensures { λ r. ⌜ r ≡ record { answer = answer; «tns_coefficients_0» = unused; «tns_coefficients_1» = unused } ⌝ }
-{
-    Reading {
-        answer,
-        tns_coefficients_0: [0; 8],
-        tns_coefficients_1: [0; 8],
-    }
-}
 
 // The arithmetic stream: the TNS data of both filters, then the pairs.
 pub fn read_arithmetic(

@@ -1,5 +1,5 @@
 // The pairs of a frame one after the other (5.4.2.7), into lent lines and levels. Each function equals its definition in specs/Pairs.antt.
-// Inner: `frame_residual` cites it, `frame_spectral` stands over it. It asks as `frame_pair` does, for at most 200 pairs, and for 400 lines
+// Inner: `frame_finish` cites it, `frame_spectral` stands over it. It asks as `frame_pair` does, for at most 200 pairs, and for 400 lines
 // and 200 levels.
 ghost use mathlib.Core.Path.{_≡_};
 ghost use Prim.Native.Nat.{_+_, _*_, _≤_, _<_};

@@ -1,4 +1,4 @@
--- The bits left, the late low bits, and the copy to the lent buffers.
+-- The bits left and the residual bits, a line's late low bits, and the clearing of a buffer.
 pub mod BitsLeft
 pub mod LateBits
-pub mod Copying
+pub mod Clearing

@@ -1,16 +1,14 @@
-// Residual data and finalization (5.4.2.8): the bits left, the residual bits, the late low bits, and both handed to the lent buffers. Each
-// function equals its definition in specs/Residual.antt; nothing that is read here leaves the frame.
-// Inner: `frame_spectral` stands over it. It asks for a frame of 20 to 400 bytes, for cursors inside it, and for lines that leave room for
-// a late bit.
+// Residual data (5.4.2.8): the bits left, the residual bits and the late low bits of one line, each equal to its definition in
+// specs/Residual.antt; and a buffer cleared. Nothing that is read here leaves the frame.
+// Inner: `frame_finish` and `frame_spectral` stand over it. It asks for a frame of 20 to 400 bytes, for cursors inside it, for lines in
+// range, and for a buffer of at most 400 residual bits, no longer than the lines.
 ghost use mathlib.Core.Path.{_≡_};
-ghost use Prim.Native.Nat.{_+_, _*_, _≤_, _<_, _/_};
-ghost use lib.ListN.{length, take, replicate};
+ghost use Prim.Native.Nat.{_+_, _*_, _≤_, _<_};
+ghost use lib.ListN.{length, replicate};
 ghost use lib.IntN.{natAbs};
 ghost use Rattle.frame_residual.specs.Residual.{log2Of, leftOf, leftGiven, residualOf, residualGiven, away};
-ghost use Rattle.frame_residual.specs.Residual.{bornOf, lateOf, lateGiven, latesOf, finishedOf, sentBits};
+ghost use Rattle.frame_residual.specs.Residual.{bornOf, lateOf, lateGiven};
 ghost use Rattle.frame_residual.specs.Sound.{GoodLeft, LeftIn, GoodLate};
-ghost use Rattle.frame_pairs.specs.Pairs.{spectrumGiven};
-ghost use Rattle.frame_pairs.specs.Sound.{Working, Small};
 use frame_bits::bit_at;
 use frame_coder::Coder;
 
@@ -53,7 +51,14 @@ pub fn bits_left(bytes: usize, p: usize, c: Coder) -> Left
 }
 
 // The residual bits of LSB mode 0, packed into `bits`; their number.
-fn read_residual(s: &[u8], lines: &[i32], p: usize, left: usize, n: usize, bits: &mut [u8]) -> usize
+pub fn read_residual(
+    s: &[u8],
+    lines: &[i32],
+    p: usize,
+    left: usize,
+    n: usize,
+    bits: &mut [u8],
+) -> usize
     requires { ⌜ LeftIn (now s) p left ⌝ }
     requires { ⌜ n ≤ length (now lines) ⌝ }
     requires { ⌜ length (now bits) ≡ n ⌝ }
@@ -109,7 +114,7 @@ fn born(s: &[u8], p: usize, left: usize) -> LateRead
 }
 
 // The late low bits of a line.
-fn read_late(s: &[u8], v: i32, p: usize, left: usize) -> LateRead
+pub fn read_late(s: &[u8], v: i32, p: usize, left: usize) -> LateRead
     requires { ⌜ LeftIn (now s) p left ⌝ }
     requires { ⌜ natAbs v ≤ 32767 ⌝ }
     ensures { λ r. ⌜ lateGiven r ≡ lateOf (now (s .entry)) v p left ⌝ }
@@ -127,33 +132,8 @@ fn read_late(s: &[u8], v: i32, p: usize, left: usize) -> LateRead
     LateRead::Line(further(v), p + 1, left - 1)
 }
 
-// The late low bits of LSB mode 1, into the first n lines.
-fn read_lates(s: &[u8], levels: &[u8], n: usize, lines: &mut [i32], start: usize, room: usize)
-    requires { ⌜ LeftIn (now s) start room ⌝ }
-    requires { ⌜ Working 1 (now lines) (now levels) ⌝ }
-    requires { ⌜ n ≤ 400 ⌝ }
-    ensures { λ _. ⌜ now (lines .exit) ≡ latesOf (now (s .entry)) (now (levels .entry)) n 0 (now (lines .entry)) start room ⌝ }
-    ensures { λ _. ⌜ Small (now (lines .exit)) ⌝ }
-{
-    let mut p = start;
-    let mut left = room;
-    let mut k = 0;
-    while k < n {
-        let at = k;
-        k = k + 1;
-        if levels[at / 2] != 0 {
-            let got = read_late(s, lines[at], p, left);
-            let LateRead::Line(v, next, fewer) = got else {
-                return;
-            };
-            lines[at] = v;
-            p = next;
-            left = fewer;
-        }
-    }
-}
-
-fn clear(out: &mut [u8])
+// Every entry of the buffer becomes 0.
+pub fn clear(out: &mut [u8])
     requires { ⌜ length (now out) ≤ 400 ⌝ }
     ensures { λ _. ⌜ now (out .exit) ≡ replicate (length (now (out .entry))) 0 ⌝ }
 {
@@ -162,57 +142,4 @@ fn clear(out: &mut [u8])
         out[i] = 0;
         i = i + 1;
     }
-}
-
-fn copy(lines: &[i32], out: &mut [i32])
-    requires { ⌜ length (now out) ≤ length (now lines) ⌝ }
-    ensures { λ _. ⌜ now (out .exit) ≡ take (length (now (out .entry))) (now (lines .entry)) ⌝ }
-{
-    let mut i = 0;
-    while i < out.len() {
-        out[i] = lines[i];
-        i = i + 1;
-    }
-}
-
-// After the last check: residual or late low bits, and what is read goes to the lent buffers; the number of residual bits.
-pub fn finish(
-    s: &[u8],
-    lsb: usize,
-    last: usize,
-    lines: &mut [i32],
-    levels: &[u8],
-    p: usize,
-    left: usize,
-    spectrum: &mut [i32],
-    bits: &mut [u8],
-) -> usize
-    requires { ⌜ LeftIn (now s) p left ⌝ }
-    requires { ⌜ Working lsb (now lines) (now levels) ⌝ }
-    requires { ⌜ length (now bits) ≡ length (now spectrum) ⌝ }
-    requires { ⌜ length (now spectrum) ≤ 400 ⌝ }
-    requires { ⌜ lsb < 2 ⌝ }
-    requires { ⌜ last ≤ 400 ⌝ }
-    ensures { λ r. ⌜
-        residualGiven r (now (bits .exit))
-        ≡ sentBits (now (s .entry)) lsb (length (now (spectrum .entry)))
-        (spectrumGiven (now (lines .entry)) (now (levels .entry))) p left
-        ⌝ }
-    ensures { λ r. ⌜
-        now (spectrum .exit)
-        ≡ take (length (now (spectrum .entry)))
-        (finishedOf (now (s .entry)) lsb last (spectrumGiven (now (lines .entry)) (now (levels .entry))) p left)
-        ⌝ }
-    ensures { λ r. ⌜ Small (now (spectrum .exit)) ⌝ }
-    ensures { λ r. ⌜ r ≤ 400 ⌝ }
-{
-    clear(bits);
-    if lsb == 0 {
-        let n = bits.len();
-        copy(lines, spectrum);
-        return read_residual(s, lines, p, left, n, bits);
-    }
-    read_lates(s, levels, last, lines, p, left);
-    copy(lines, spectrum);
-    0
 }

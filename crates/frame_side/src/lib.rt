@@ -1,6 +1,7 @@
 // The side information (5.4.2.3), field by field: each function equals its definition in specs/Side.antt, and no field
 // leaves a frame of 20 bytes.
-// Inner: `frame_spectral`, `frame_arithmetic` and `frame` stand over it. It asks for a known setting and a frame of 20 to 400 bytes.
+// Inner: `frame_answers`, `frame_spectral`, `frame_arithmetic` and `frame` stand over it. It asks for a known setting and a frame of 20 to
+// 400 bytes.
 ghost use mathlib.Core.Path.{_≡_};
 ghost use Prim.Native.Nat.{_≤_, _<_};
 ghost use Rattle.frame_settings.specs.Settings.{Known, Sized};

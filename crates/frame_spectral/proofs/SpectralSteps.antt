@@ -17,7 +17,7 @@ use Rattle.frame_pair.specs.Sound.{PairTables}
 use Rattle.frame_pairs.specs.Pairs.{Spectrum, pairsOf, pairsGiven}
 use Rattle.frame_residual.specs.Residual.{Residual, leftOf, leftGiven}
 use Rattle.frame_spectral.specs.Spectral.{Spectral, pairSetting, spectralOf, spectralFrom}
-use Rattle.frame_residual.specs.Residual.{finishedOf, sentBits}
+use Rattle.frame_finish.specs.Finish.{finishedOf, sentBits}
 use Rattle.frame_pairs.specs.Sound.{Roomy, GoodPairs}
 use Rattle.frame_residual.specs.Sound.{GoodLeft}
 use Rattle.frame_settings.specs.declared.Setting.{Setting}

@@ -15,7 +15,7 @@ use Rattle.frame_side.specs.declared.Head.{Head}
 use Rattle.frame_pairs.specs.declared.PairSetting.{PairSetting}
 use Rattle.frame_spectral.specs.declared.SpectralRead.{SpectralRead}
 use Rattle.frame_spectral.specs.declared.SpectralRead.the-variants as spectralRead
-use Rattle.frame_residual.specs.Residual.{finishedOf, sentBits}
+use Rattle.frame_finish.specs.Finish.{finishedOf, sentBits}
 
 -- what follows the TNS data: the number of symbols taken, the lines and the residual bits, NE entries each
 pub record Spectral : Type 0 where

@@ -60,7 +60,7 @@ pub fn read_spectral(
         PairsRead::Value(d, q) => match frame_residual::bits_left(frame.len(), q, d) {
             Left::Cause(k) => SpectralRead::Cause(k),
             Left::Value(left) => {
-                let count = frame_residual::finish(
+                let count = frame_finish::finish(
                     frame,
                     lsb,
                     last,

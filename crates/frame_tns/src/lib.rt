@@ -1,6 +1,6 @@
 // The TNS data (5.4.2.7): a filter's order and coefficients. Each function equals its definition in specs/Tns.antt.
-// Inner: `frame_arithmetic` stands over it. It asks for a frame of 20 to 400 bytes, for the TNS tables, for room of zeros and for a cursor
-// of `frame_coder`.
+// Inner: `frame_answers` cites it, `frame_arithmetic` stands over it. It asks for a frame of 20 to 400 bytes, for the TNS tables, for room
+// of zeros and for a cursor of `frame_coder`.
 ghost use mathlib.Core.Path.{_≡_};
 ghost use Prim.Native.Nat.{_≤_, _<_};
 ghost use lib.ListN.{length};

@@ -12,14 +12,15 @@ use lib.IntN.{ℤ}
 use borrow.Author.Tests.{le-leb, ltb-true, ltb-false, eq-eqb, ne-eqb}
 use Rattle.frame_settings.specs.Settings.{rateOf, linesAt, lineCount}
 use Rattle.frame_settings.proofs.Rates.{rate-unknown}
-use Rattle.frame_arithmetic.specs.Answers.{Judged, refused, judgedRead, Given, told, refusedWith, Answers}
+use Rattle.frame_answers.specs.Answers.{Given, told, refusedWith}
+use Rattle.frame_arithmetic.specs.Answers.{Judged, refused, judgedRead, Answers}
 use Rattle.frame.specs.Frame.{judgedAt, judgedOf, frameOf}
 use Rattle.frame_arithmetic.specs.Sound.{Bounded}
 use Rattle.frame_arithmetic.proofs.ArithmeticSteps.{answers-refused}
 use Rattle.frame_settings.specs.declared.Setting.{Setting}
 use Rattle.frame_settings.specs.declared.Rate.{Rate}
 use Rattle.frame_settings.specs.declared.Rate.the-variants as rate
-use Rattle.frame_arithmetic.specs.declared.Reading.{Reading}
+use Rattle.frame_answers.specs.declared.Reading.{Reading}
 use Rattle.record_bytes.specs.Layout.{RecordEntry}
 use Rattle.record_bytes.specs.Reading.{readRecord}
 use Rattle.record.specs.Answers.{frameAt, entryOf, entryAnswer, framePart}

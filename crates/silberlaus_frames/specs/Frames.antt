@@ -7,12 +7,13 @@ use Prim.Native.Nat.{ℕ}
 use lib.Dec.{ltb, eqb}
 use lib.ListN.{length}
 use Rattle.frame_settings.specs.Settings.{rateOf}
-use Rattle.frame_arithmetic.specs.Answers.{Judged, refused, judgedRead, Given}
+use Rattle.frame_answers.specs.Answers.{Given}
+use Rattle.frame_arithmetic.specs.Answers.{Judged, refused, judgedRead}
 use Rattle.frame.specs.Frame.{frameOf}
 use Rattle.frame_settings.specs.declared.Setting.{Setting}
 use Rattle.frame_settings.specs.declared.Rate.{Rate}
 use Rattle.frame_settings.specs.declared.Rate.the-variants as rate
-use Rattle.frame_arithmetic.specs.declared.Fields.{Fields}
+use Rattle.frame_answers.specs.declared.Fields.{Fields}
 use Rattle.record_bytes.specs.Layout.{RecordEntry}
 use Rattle.record_bytes.specs.Reading.{readRecord}
 use Rattle.record.specs.Answers.{frameAt, entryAnswer}

@@ -4,7 +4,8 @@
 ghost use mathlib.Core.Path.{_≡_};
 ghost use lib.ListN.{length};
 ghost use Rattle.frame.specs.Frame.{judgedOf};
-ghost use Rattle.frame_arithmetic.specs.Answers.{noFields, refusedWith, Answers, told};
+ghost use Rattle.frame_answers.specs.Answers.{noFields, refusedWith, told};
+ghost use Rattle.frame_arithmetic.specs.Answers.{Answers};
 ghost use Rattle.frame_arithmetic.specs.Sound.{Bounded};
 ghost use Rattle.silberlaus_frames.specs.Frames.{given, frameGiven, judgedEntry, missing};
 use frame::Answer;

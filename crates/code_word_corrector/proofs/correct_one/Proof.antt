@@ -1,10 +1,7 @@
 -- `code_word_corrector::correct_one` meets its contract. The error that is tested is the one that is taken off. Assumes nothing.
-use mathlib.Core.Path.{ap, _∙_}
 use native.Mathlib.Omega.{arith}
-use native.Mathlib.Nat.{mod-eq-of-lt}
 use borrow.Author.Needs.{needs}
 use Rattle.gf16.proofs.Laws.{product-lt}
-use Rattle.code_word_laws.specs.Corrector.{bothOf}
 use Rattle.code_word_corrector.proofs.Single.{taken-off-one, tried-none, tried-one}
 use Rattle.code_word_corrector.proofs.correct_one.Statement.{statement}
 use Rattle.code_word_corrector.proofs.correct_one.Tie as tie
@@ -27,24 +24,20 @@ row-requires c κs =
     let d = c .before .before .before .before .before in
     (d .before .before .before .before .pre .0 .table, (c .before .logarithm .ensures .0, rw (d .times2 .ensures) (product-lt _ _)))
 
-cast-result : tie.Need-cast-result
-cast-result c = record { fits = omega (arith, c .both-counts .ensures .1) }
-
 returns-3 : tie.Need-returns-3
 returns-3 c =
-    let n = c .both-counts in
-    let q = c .before .before .before in
+    let q = c .before .before in
     let l = q .before .before .before in
     let d = l .before .before .before .before in
     let a = d .before .before .before .before in
     let p = a .pre .0 in
-    tried-one _ _ _ (d .times2 .result) (n .result) (rw (d .times2 .ensures) (product-lt _ _)) (l .before .before .before .if1 .left)
-    (n .ensures .0 ∙ ap bothOf (mod-eq-of-lt (rw (d .times2 .ensures) (product-lt _ _))))
+    let below = rw (d .times2 .ensures) (product-lt _ _) in
+    tried-one _ _ _ (d .times2 .result) below (l .before .before .before .if1 .left)
     (taken-off-one (a .args .most) (a .args .word .now) (a .args .s) (l .logarithm .result) (d .times2 .result) (q .before .row .result)
     (p .most-from) (p .most-to)
     (p .short) (p .semi-octets) (a .pre .1)
-    (omega arith) (rw (d .times2 .ensures) (product-lt _ _)) (l .before .before .before .if1 .left) (q .before .row .ensures)
-    (q .clear .ensures .holds (c .before .before .if3 .taken)))
+    (omega arith) below (l .before .before .before .if1 .left) (q .before .row .ensures)
+    (q .clear .ensures .holds (c .before .if3 .taken)))
 
 returns-4 : tie.Need-returns-4
 returns-4 c = tried-none _ _
@@ -55,5 +48,5 @@ correct-one-spec =
     (tie.spec
     (λ c. search needs) (λ c. search needs) (λ c κs. search needs) (λ c κs. search needs) times-requires-2
     returns (λ c κs. search needs) (λ c κs. search needs) logarithm-requires returns-2 row-requires
-    (λ c κs. search needs) (λ c. search needs) (λ c. search needs) (λ c κs. search needs)
-    cast-result (λ c. search needs) returns-3 returns-4)
+    (λ c κs. search needs) (λ c. search needs) (λ c. search needs)
+    (λ c. search needs) returns-3 returns-4)

@@ -6,7 +6,7 @@ use Prim.Native.Nat.{_-_}
 use native.Mathlib.Omega.{arith}
 use lib.ListN.{length, length-set}
 use Rattle.laws.proofs.Fill.{Filled, filled-first, filled-next}
-use Rattle.frame_residual.proofs.Copying.{cleared}
+use Rattle.frame_residual.proofs.Clearing.{cleared}
 use borrow.Author.Needs.{needs}
 
 abbrev Inv-loop : tie.InvT-loop

@@ -1,6 +1,6 @@
--- `frame_residual::copy` meets its contract. The invariant: the first i lines are copied. Assumes nothing.
-use Rattle.frame_residual.proofs.copy.Statement.{statement}
-use Rattle.frame_residual.proofs.copy.Tie as tie
+-- `frame_finish::copy` meets its contract. The invariant: the first i lines are copied. Assumes nothing.
+use Rattle.frame_finish.proofs.copy.Statement.{statement}
+use Rattle.frame_finish.proofs.copy.Tie as tie
 use mathlib.Core.Path.{_≡_, refl, ap, _∙_}
 use Prim.Native.Nat.{_≤_, _-_}
 use native.Mathlib.Omega.{arith}
@@ -9,7 +9,7 @@ use lib.Seq.{paste, paste-zero}
 use denote.Ref.{now}
 use mir.Syntax.{w32}
 use mir.ValLaws.{toZ-ofZ}
-use Rattle.frame_residual.proofs.Copying.{copied, copy-next}
+use Rattle.frame_finish.proofs.Copying.{copied, copy-next}
 use borrow.Author.Needs.{needs}
 
 abbrev Inv-loop : tie.InvT-loop

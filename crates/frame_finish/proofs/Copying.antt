@@ -1,4 +1,4 @@
--- What goes to the lent buffers after the last check: the loops that clear and copy, and the two LSB modes (5.4.2.8).
+-- What goes to the lent buffers after the last check: the loop that copies, and the two LSB modes (5.4.2.8).
 -- Assumes nothing.
 use mathlib.Core.Path.{_≡_, refl, sym, ap, _∙_}
 use mathlib.Core.List.{List, [], _∷_, _++_}
@@ -11,19 +11,9 @@ use lib.Seq.{paste, paste-suc, drop-length}
 use lib.IntN.{ℤ, pos}
 use borrow.Author.Tests.{eq-eqb, ne-eqb}
 use Rattle.frame_pairs.specs.Pairs.{Spectrum}
-use Rattle.frame_residual.specs.Residual.{Residual, residualOf, latesOf}
-use Rattle.frame_residual.specs.Residual.{finishedOf, sentBits}
+use Rattle.frame_residual.specs.Residual.{Residual, residualOf}
+use Rattle.frame_finish.specs.Finish.{latesOf, finishedOf, sentBits}
 use Rattle.frame_pairs.specs.Sound.{Roomy, Small}
-use Rattle.laws.specs.Tab.{tab}
-use Rattle.laws.proofs.Fill.{Filled, filled-last}
-
-zeros : (n : ℕ) → tab (λ k. 0) n ≡ replicate n 0
-unfolding tab
-zeros zero = refl
-zeros (suc n) = ap (λ (l : List ℕ). 0 ∷ l) (zeros n)
-
-pub cleared : (n i : ℕ) (l : List ℕ) → Filled (λ k. 0) n i l → n ≤ i → l ≡ replicate n 0
-cleared n i l h p = filled-last (λ k. 0) n i l h p ∙ zeros n
 
 append-nil : (l : List ℤ) → l ++ [] ≡ l
 append-nil [] = refl

@@ -1,11 +1,11 @@
--- `frame_residual::finish` meets its contract. Assumes nothing.
+-- `frame_finish::finish` meets its contract. Assumes nothing.
 use borrow.Author.Needs.{needs}
-use Rattle.frame_residual.proofs.finish.Statement.{statement}
-use Rattle.frame_residual.proofs.finish.Tie as tie
+use Rattle.frame_finish.proofs.finish.Statement.{statement}
+use Rattle.frame_finish.proofs.finish.Tie as tie
 use native.Mathlib.Omega.{arith}
 use lib.ListN.{length}
 use denote.Ref.{now}
-use Rattle.frame_residual.proofs.Copying.{sent-zero, sent-one, finished-zero, finished-one, copy-small, roomy-small, roomy-one}
+use Rattle.frame_finish.proofs.Copying.{sent-zero, sent-one, finished-zero, finished-one, copy-small, roomy-small, roomy-one}
 
 returns : tie.Need-returns
 returns c =

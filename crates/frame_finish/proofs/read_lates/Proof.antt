@@ -1,8 +1,8 @@
--- `frame_residual::read_lates` meets its contract. The invariant: what is still to be read gives the whole, and the lines to come have
+-- `frame_finish::read_lates` meets its contract. The invariant: what is still to be read gives the whole, and the lines to come have
 -- room.
 -- Assumes nothing.
-use Rattle.frame_residual.proofs.read_lates.Statement.{statement}
-use Rattle.frame_residual.proofs.read_lates.Tie as tie
+use Rattle.frame_finish.proofs.read_lates.Statement.{statement}
+use Rattle.frame_finish.proofs.read_lates.Tie as tie
 use mathlib.Core.Path.{_≡_, sym, ap, _∙_}
 use Prim.Native.Nat.{_+_, _*_, _≤_, _-_}
 use native.Mathlib.Omega.{arith}
@@ -12,10 +12,11 @@ use denote.Ref.{now}
 use mir.Syntax.{w32}
 use mir.Val.{toZ, ofZ}
 use mir.ValLaws.{toZ-ofZ}
-use Rattle.frame_residual.specs.Residual.{latesOf, lateGiven}
-use Rattle.frame_residual.proofs.LateBits.{lates-first, lates-done, lates-skip, lates-stop, lates-more}
-use Rattle.frame_residual.proofs.LateBits.{RoomFrom, room-first, room-skip, room-next, room-last}
-use Rattle.frame_residual.proofs.LateBits.{same-small, small-fits}
+use Rattle.frame_residual.specs.Residual.{lateGiven}
+use Rattle.frame_finish.specs.Finish.{latesOf}
+use Rattle.frame_finish.proofs.LateLines.{lates-first, lates-done, lates-skip, lates-stop, lates-more}
+use Rattle.frame_finish.proofs.LateLines.{RoomFrom, room-first, room-skip, room-next, room-last}
+use Rattle.frame_finish.proofs.LateLines.{same-small, small-fits}
 use borrow.Author.Needs.{needs}
 
 abbrev Inv-loop : tie.InvT-loop

@@ -1,0 +1,2 @@
+-- What each answer says (Answers).
+pub mod Answers
