@@ -1,4 +1,5 @@
 -- `code_word_corrector::correct_one` meets its contract. The error that is tested is the one that is taken off. Assumes nothing.
+use Prim.Native.Nat.{_<_}
 use native.Mathlib.Omega.{arith}
 use borrow.Author.Needs.{needs}
 use Rattle.gf16.proofs.Laws.{product-lt}
@@ -31,7 +32,7 @@ returns-3 c =
     let d = l .before .before .before .before in
     let a = d .before .before .before .before in
     let p = a .pre .0 in
-    let below = rw (d .times2 .ensures) (product-lt _ _) in
+    let below : d .times2 .result < 16 = rw (d .times2 .ensures) (product-lt _ _) in
     tried-one _ _ _ (d .times2 .result) below (l .before .before .before .if1 .left)
     (taken-off-one (a .args .most) (a .args .word .now) (a .args .s) (l .logarithm .result) (d .times2 .result) (q .before .row .result)
     (p .most-from) (p .most-to)

@@ -13,6 +13,7 @@ use Rattle.code_word_laws.proofs.Correcting.{
   correct-word-accepted,
   correct-word-refused,
 }
+use Rattle.code_word_corrector.proofs.Single.{bits-of}
 use Rattle.code_word_corrector.proofs.correct_word.Statement.{statement}
 use Rattle.code_word_corrector.proofs.correct_word.Tie as tie
 
@@ -23,8 +24,14 @@ returns c =
     taken-off-clean (a .args .most) (a .args .word .now) (p .most-to) (p .short) (p .semi-octets) (c .before .before .syndromes .result)
     (c .before .before .syndromes .ensures) (c .before .clear .ensures .holds (c .if1 .taken))
 
+cast-t17 : tie.Need-cast-t17
+cast-t17 c = record { fits = omega (arith, c .both-counts .ensures .1) }
+
 returns-2 : tie.Need-returns-2
-returns-2 c = c .before .before .before .correct-one .ensures .one (c .if2 .taken)
+returns-2 c =
+    let n = c .both-counts in
+    let o = c .before .before .before .before .correct-one in
+    rw (bits-of (o .result) (n .result) (o .ensures .below) (n .ensures .0)) (o .ensures .one (c .before .if2 .taken))
 
 accepted-requires : tie.Need-accepted-requires
 accepted-requires c κs =
@@ -43,8 +50,8 @@ accepted-requires c κs =
       semi-octets = rw e (taken-off-semi-octets (a .args .word .now) _ (p .semi-octets));
     }
 
-cast-t22 : tie.Need-cast-t22
-cast-t22 c = record { fits = omega (arith, c .before .before .before .before .before .take-off .ensures .few) }
+cast-t25 : tie.Need-cast-t25
+cast-t25 c = record { fits = omega (arith, c .before .before .before .before .before .take-off .ensures .few) }
 
 returns-3 : tie.Need-returns-3
 returns-3 c =
@@ -82,5 +89,5 @@ correct-word-spec =
     tie.close
     (tie.spec
     (λ c κs. search needs) (λ c κs. search needs) (λ c. search needs) returns (λ c κs. search needs)
-    (λ c. search needs) returns-2 (λ c κs. search needs) (λ c κs. search needs) (λ c. search needs) accepted-requires
-    cast-t22 (λ c. search needs) returns-3 (λ c κs. search needs) (λ c. search needs) (λ c. search needs) returns-4)
+    (λ c κs. search needs) cast-t17 (λ c. search needs) returns-2 (λ c κs. search needs) (λ c κs. search needs) (λ c. search needs) accepted-requires
+    cast-t25 (λ c. search needs) returns-3 (λ c κs. search needs) (λ c. search needs) (λ c. search needs) returns-4)
