@@ -1,7 +1,8 @@
 // One Reed-Solomon code word of Annex A over the field of 16 (crate `gf16`): its check semi-octets, and its correction.
 // Promised, for every word and mode: `make` leaves the only valid word over the data; `correct` leaves the only valid word of the word's
-// own length within m - 1 places, with the counts of places and of bits, or says that there is none and leaves the word as it was lent; `correct_each`
-// does so for many words; `with_data` sums up, with the table of `check_rows`, the check semi-octets of a word whose data come one by one.
+// own length within m - 1 places, with the counts of places and of bits, or says that there is none and leaves the word as it was lent;
+// `correct_each` does so for many words; `with_data` sums up, with the table of `check_rows`, the check semi-octets of a word whose data
+// come one by one.
 // What is out of range gets an answer of its own. specs/ of `code_word_laws` says what is right, and its proofs/ has the distance argument,
 // once for d.
 ghost use mathlib.Core.Path.{_≡_};

@@ -120,7 +120,9 @@ module _ (mode many n : ℕ) (old : List ℕ) (i at : ℕ) (new counts bits : Li
           → WordCorrected mode (piece many n j old) (piece many n j after) (getD (set counts i r) j 0) (getD (set bits i b) j 0)
       each-next j h true e =
           let s = eqb-true j i e in
-          rw (s, now-done, getD-set-same counts i r 0 (omega (arith, k .as-many)), getD-set-same bits i b 0 (omega (arith, k .as-many-bits)))
+          let n = getD-set-same counts i r 0 (omega (arith, k .as-many)) in
+          let m = getD-set-same bits i b 0 (omega (arith, k .as-many-bits)) in
+          rw (s, now-done, n, m)
           (rw batch-word at corrected)
       each-next j h false e =
           let d : (j ≡ i → ⊥) = eqb-false j i e in

@@ -64,7 +64,9 @@ pub bits-between : (x y : ℕ) → x < 16 → y < 16
 bits-between x y h l = go (eqb x y) refl
   where
     go : (b : Bool) → eqb x y ≡ b → (unequal b ≤ bitsChanged x y) × (bitsChanged x y ≤ 4 * unequal b)
-    go true e = let z : bitsChanged x y ≡ 0 = ap (λ (c : ℕ). bitsChanged x c) (sym (eqb-true x y e)) ∙ bits-same x in (omega arith, omega arith)
+    go true e =
+        let z : bitsChanged x y ≡ 0 = ap (λ (c : ℕ). bitsChanged x c) (sym (eqb-true x y e)) ∙ bits-same x in
+        (omega arith, omega arith)
     go false e =
         let s = ones-some (sum x y) (sum-lt x y h l) (λ z. eqb-false x y e (sum-same x y z)) in
         let m = ones-most (sum x y) in

@@ -145,7 +145,8 @@ pub valid-corrected : (size mode : ℕ) (slot c : List ℕ) → Corrected size m
 valid-corrected size mode slot c a i l = a .near i l .valid
 
 pub accepts : (size mode : ℕ) (slot old c : List ℕ) → Taken size mode slot old → Corrected size mode slot c → HashesMatch size mode c
-    → Unprotects size mode slot old (frameFrom size mode c) (acceptedWith (requestFrom size mode c) (changes size slot c) (bitChanges size slot c))
+    → Unprotects size mode slot old (frameFrom size mode c)
+    (acceptedWith (requestFrom size mode c) (changes size slot c) (bitChanges size slot c))
 accepts size mode slot old c t a m =
     let e = slot-read size mode c (t .range) (a .bytes) (valid-corrected size mode slot c a) m in
     record {

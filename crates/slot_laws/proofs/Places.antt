@@ -188,7 +188,8 @@ changes-word size g s r i h l =
     ∙ sym (changes-received semiOctetChanged semi-octets-shifted size g s r i)
 
 -- a slot's changed bits are no fewer than its changed semi-octets, and at most four times them
-pub bit-changes-between : (size : ℕ) (s r : List ℕ) → (changes size s r ≤ bitChanges size s r) × (bitChanges size s r ≤ 4 * changes size s r)
+pub bit-changes-between : (size : ℕ) (s r : List ℕ)
+    → (changes size s r ≤ bitChanges size s r) × (bitChanges size s r ≤ 4 * changes size s r)
 unfolding slotChanges changed
 bit-changes-between size s r =
     let l = total-times (changed semiOctetChanged s r) (changed bitsChanged s r) 1 (2 * size) (λ p h. omega (arith, between p .0)) in

@@ -22,7 +22,9 @@ loop-holds : tie.Need-loop-holds Inv-loop μ-loop
 loop-holds c = (search needs, omega arith, taken-first bothChanged (c .before .args .word .now) (c .before .args .e))
 
 add-both : tie.Need-add-both Inv-loop μ-loop
-add-both c = record { fits = omega (arith, c .before .before .before .loop .inv .1, c .both-counts .ensures .1, c .before .before .before .before .before .pre .1) }
+add-both c =
+    let h = c .before .before .before in
+    record { fits = omega (arith, h .loop .inv .1, c .both-counts .ensures .1, h .before .before .pre .1) }
 
 loop-again : tie.Need-loop-again Inv-loop μ-loop
 loop-again c =

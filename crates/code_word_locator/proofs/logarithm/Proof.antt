@@ -13,7 +13,8 @@ returns : tie.Need-returns
 unfolding logarithms
 returns c =
     let a = c .before .before .args .a in
-    let e : c .wide2 .result ≡ getD logarithms a 0 = c .wide2 .ensures .0 ∙ ap (λ (i : ℕ). getD logarithms i 0) (c .before .wide .ensures .0) in
+    let e : c .wide2 .result ≡ getD logarithms a 0 =
+    c .wide2 .ensures .0 ∙ ap (λ (i : ℕ). getD logarithms i 0) (c .before .wide .ensures .0) in
     (rw e (logarithms-lt a (omega arith)), λ n. ap (λ (i : ℕ). power 2 i) e ∙ logarithms-at a (omega arith) n)
 
 pub logarithm-spec : {M : Type 1} → statement M

@@ -42,8 +42,8 @@ part : (c : tie.After-word-length Inv-loop μ-loop) → let h = c .before .befor
 part c =
     let h = c .before .before in
     let s = begin h in
-    word-part (s .pre .range) (h .before .before .before .word-count .ensures .0) (c .before .loop-test .taken) (h .loop .inv .1) (s .pre .given)
-    (c .word-length .ensures .0) (h .before .before .distance .ensures)
+    word-part (s .pre .range) (h .before .before .before .word-count .ensures .0) (c .before .loop-test .taken)
+    (h .loop .inv .1) (s .pre .given) (c .word-length .ensures .0) (h .before .before .distance .ensures)
 
 add-e : tie.Need-add-e Inv-loop μ-loop
 add-e c = record { fits = omega (arith, end-few (part c)) }
@@ -95,11 +95,12 @@ pack-bytes-requires c κs =
     let s = begin h in
     let a = s .args in
     let z = s .pre .range .size-to in
+    let w = all-words (a .size) (a .mode) (a .message .now) (s .pre .range) (s .pre .given) in
     record {
       many = omega (arith, s .pre .long, h .loop .inv .2 .long, z);
       few = omega (arith, s .pre .long, z);
       below = λ p q.
-          placed-below (s .pre .range .size-from) (all-words (a .size) (a .mode) (a .message .now) (s .pre .range) (s .pre .given)) (h .loop .inv .2)
+          placed-below (s .pre .range .size-from) w (h .loop .inv .2)
           (signature-lt (a .mode)) (all-placed (c .before .before)) p (omega (arith, s .pre .long, q));
     }
 

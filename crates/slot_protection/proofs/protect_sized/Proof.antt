@@ -45,11 +45,12 @@ write-slot-requires c κs =
     let e = c .before .before .before .before .before .data-size in
     let m = c .before .before .before .arrange in
     let l = m .last .1 .1 .1 .1 .0 in
+    let d = drop (e .result) blanks in
     record {
       range = s .pre .range;
       long = omega (arith, c .before .before .before .before .before .before .if2 .left);
       given =
-          rw (message-is (a .size) (a .mode) (a .request) (e .result) (a .frame .now) l (drop (e .result) blanks) (e .ensures .is) (m .ensures))
+          rw (message-is (a .size) (a .mode) (a .request) (e .result) (a .frame .now) l d (e .ensures .is) (m .ensures))
           (data-of (a .size) (a .mode) (a .request) (a .frame .now));
     }
 
