@@ -6,14 +6,14 @@ use Prim.Native.Nat.{ℕ, _+_, _*_, _-_, _/_, _≤_, _<_}
 use native.Mathlib.Omega.{arith}
 use native.Mathlib.Nat.{le-div-iff-mul-le, div-lt-iff-lt-mul}
 use native.Mathlib.Numerals.{add-one}
-use lib.Dec.{eqb, leb, eqb→eq}
+use lib.Dec.{T, eqb, leb, eqb→eq}
 use borrow.Author.Tests.{eq-eqb, ne-eqb, le-leb, lt-leb}
 use Rattle.laws.specs.Tab.{total}
-use Rattle.laws.proofs.Every.{at}
+use Rattle.laws.proofs.Every.{every, at}
 use Rattle.laws.proofs.Tab.{total-next, total-none}
 use Rattle.code_word_laws.specs.Word.{distance}
 use Rattle.slot_laws.specs.Sizes.{InRange, words, wordLength, dataLength, concealWords, block, conceal, hash1, hash2, frameSize}
-use Rattle.slot_laws.proofs.Sizes.{words-thirteen, length-low, length-high, overhead, conceal-few, conceal-fits}
+use Rattle.slot_laws.proofs.Sizes.{overhead, conceal-few, conceal-fits}
 
 pub word-count-is : (size r : ℕ) → size ≤ 400 → r ≡ (2 * size + 14) / 15 → (r ≡ words size) × (r ≤ 54)
 unfolding words
@@ -28,26 +28,13 @@ length-to : (size count i k : ℕ) → count ≡ words size → 0 < count → 2 
 unfolding wordLength
 length-to size count i k e p h = let q = rw e at (div-lt-iff-lt-mul p .1 h) in omega arith
 
-module _ (size count i : ℕ) (from : 40 ≤ size) (is : count ≡ words size) (in-slot : i < words size) where
-  pub length-thirteen : 2 * size - i ≤ 13 * count → (13 ≡ wordLength size i) × (13 ≤ 13) × (13 ≤ 15)
-  length-thirteen h =
-      let w = words-thirteen size from in
-      let a = length-low size i from in-slot in
-      let b = length-to size count i 13 is (omega arith) (omega arith) in
-      (omega arith, omega arith, omega arith)
-
-  pub length-fourteen : 13 * count < 2 * size - i → 2 * size - i ≤ 14 * count → (14 ≡ wordLength size i) × (13 ≤ 14) × (14 ≤ 15)
-  length-fourteen g h =
-      let w = words-thirteen size from in
-      let a = length-from size count i 13 is (omega arith) (omega arith) in
-      let b = length-to size count i 14 is (omega arith) (omega arith) in
-      (omega arith, omega arith, omega arith)
-
-  pub length-fifteen : 14 * count < 2 * size - i → (15 ≡ wordLength size i) × (13 ≤ 15) × (15 ≤ 15)
-  length-fifteen h =
-      let a = length-from size count i 14 is (omega arith) (omega arith) in
-      let b = length-high size i from in
-      (omega arith, omega arith, omega arith)
+-- word i has k + 1 semi-octets
+pub length-is : (size count i k : ℕ) → count ≡ words size → 0 < count → k * count < 2 * size - i → 2 * size - i ≤ (k + 1) * count
+    → k + 1 ≡ wordLength size i
+length-is size count i k e p g h =
+    let a = length-from size count i k e p (omega arith) in
+    let b = length-to size count i (k + 1) e p (omega arith) in
+    omega arith
 
 -- ---- hashes
 
@@ -77,38 +64,34 @@ hash2-large size mode h k = rw (le-leb 80 size h, le-leb 3 mode k)
 
 -- ---- partial concealment words
 
-three-test : ℕ → Bool
-three-test k =
-    eqb ((80447761194030 * (80 + k) - 1791044776119394 + 500000000000000) / 1000000000000000) ((539 * (80 + k) - 8650) / 6700)
+-- A.11's number is that of smaller numbers at every size: one test
+fewer-test : ℕ → ℕ → ℕ → ℕ → ℕ → ℕ → Bool
+fewer-test a b p q r k = eqb ((a * (80 + k) - b + 500000000000000) / 1000000000000000) ((p * (80 + k) - q) / r)
 
-four-test : ℕ → Bool
-four-test k =
-    eqb ((66492537313433 * (80 + k) - 1970149253731338 + 500000000000000) / 1000000000000000) ((4455 * (80 + k) - 98500) / 67000)
+fewer : (a b p q r size : ℕ) → T (every 321 (fewer-test a b p q r)) → 80 ≤ size → size ≤ 400
+    → (a * size - b + 500000000000000) / 1000000000000000 ≡ (p * size - q) / r
+unfolding fewer-test
+fewer a b p q r size t h k =
+    let s : 80 + (size - 80) ≡ size = omega arith in
+    let l : size - 80 < 321 = omega arith in
+    let e = eqb→eq ((a * (80 + (size - 80)) - b + 500000000000000) / 1000000000000000) ((p * (80 + (size - 80)) - q) / r)
+    (at 321 (fewer-test a b p q r) t (size - 80) l) in
+    rw s at e
 
 pub conceal-small : (size mode : ℕ) → size < 80 → concealWords size mode ≡ 0
 unfolding concealWords
 conceal-small size mode h = rw (lt-leb 80 size h)
 
 pub conceal-three : (size mode : ℕ) → 80 ≤ size → size ≤ 400 → mode ≡ 3 → concealWords size mode ≡ (539 * size - 8650) / 6700
-unfolding concealWords three-test
+unfolding concealWords fewer-test
 conceal-three size mode h k e =
-    let s : 80 + (size - 80) ≡ size = omega arith in
-    let l : size - 80 < 321 = omega arith in
-    let t = eqb→eq ((80447761194030 * (80 + (size - 80)) - 1791044776119394 + 500000000000000) / 1000000000000000)
-    ((539 * (80 + (size - 80)) - 8650) / 6700)
-    (at 321 three-test tt (size - 80) l) in
-    rw (le-leb 80 size h, eq-eqb mode 3 e) (rw s at t)
+    rw (le-leb 80 size h, eq-eqb mode 3 e) (fewer 80447761194030 1791044776119394 539 8650 6700 size tt h k)
 
 pub conceal-four : (size mode : ℕ) → 80 ≤ size → size ≤ 400 → mode ≡ 4 → concealWords size mode ≡ (4455 * size - 98500) / 67000
-unfolding concealWords four-test
+unfolding concealWords fewer-test
 conceal-four size mode h k e =
-    let s : 80 + (size - 80) ≡ size = omega arith in
-    let l : size - 80 < 321 = omega arith in
     let n : (mode ≡ 3 → ⊥) = λ x. omega arith in
-    let t = eqb→eq ((66492537313433 * (80 + (size - 80)) - 1970149253731338 + 500000000000000) / 1000000000000000)
-    ((4455 * (80 + (size - 80)) - 98500) / 67000)
-    (at 321 four-test tt (size - 80) l) in
-    rw (le-leb 80 size h, ne-eqb mode 3 n, eq-eqb mode 4 e) (rw s at t)
+    rw (le-leb 80 size h, ne-eqb mode 3 n, eq-eqb mode 4 e) (fewer 66492537313433 1970149253731338 4455 98500 67000 size tt h k)
 
 pub conceal-other : (size mode : ℕ) → (mode ≡ 3 → ⊥) → (mode ≡ 4 → ⊥) → concealWords size mode ≡ 0
 unfolding concealWords

@@ -21,7 +21,9 @@ pub fn word_length(size: usize, count: usize, i: usize) -> usize
     requires { ⌜ size ≤ 400 ⌝ }
     requires { ⌜ count ≡ words size ⌝ }
     requires { ⌜ i < words size ⌝ }
-    ensures { λ r. ⌜ (r ≡ wordLength size i) × (13 ≤ r) × (r ≤ 15) ⌝ }
+    ensures { λ r. ⌜ r ≡ wordLength size i ⌝ }
+    ensures { λ r. ⌜ 13 ≤ r ⌝ }
+    ensures { λ r. ⌜ r ≤ 15 ⌝ }
 {
     let end = 2 * size - i;
     if end <= 13 * count {

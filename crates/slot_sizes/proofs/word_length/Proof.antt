@@ -1,6 +1,6 @@
--- `slot_sizes::word_length` meets its contract: a law for each of the three lengths. Assumes nothing.
-use Rattle.slot_sizes.proofs.SizeSteps.{length-thirteen, length-fourteen, length-fifteen}
-use Rattle.slot_laws.proofs.Sizes.{words-thirteen}
+-- `slot_sizes::word_length` meets its contract: one law for the three lengths. Assumes nothing.
+use Rattle.slot_sizes.proofs.SizeSteps.{length-is}
+use Rattle.slot_laws.proofs.Sizes.{words-thirteen, words-cover}
 use native.Mathlib.Omega.{arith}
 use borrow.Author.Needs.{needs}
 use Rattle.slot_sizes.proofs.word_length.Statement.{statement}
@@ -16,17 +16,21 @@ mul-if2 : tie.Need-mul-if2
 mul-if2 c = let w = words-thirteen (c .before .args .size) (omega arith) in omega arith
 
 returns : tie.Need-returns
-returns c = let a = c .before .args in length-thirteen (a .size) (a .count) (a .i) (omega arith) (omega arith) (omega arith) (omega arith)
+returns c =
+    let a = c .before .args in
+    let w = words-thirteen (a .size) (omega arith) in
+    (length-is (a .size) (a .count) (a .i) 12 (omega arith) (omega arith) (omega arith) (omega arith), (omega arith, omega arith))
 
 returns-2 : tie.Need-returns-2
 returns-2 c =
     let a = c .before .before .args in
-    length-fourteen (a .size) (a .count) (a .i) (omega arith) (omega arith) (omega arith) (omega arith) (omega arith)
+    (length-is (a .size) (a .count) (a .i) 13 (omega arith) (omega arith) (omega arith) (omega arith), (omega arith, omega arith))
 
 returns-3 : tie.Need-returns-3
 returns-3 c =
     let a = c .before .before .args in
-    length-fifteen (a .size) (a .count) (a .i) (omega arith) (omega arith) (omega arith) (omega arith)
+    let w = words-cover (a .size) in
+    (length-is (a .size) (a .count) (a .i) 14 (omega arith) (omega arith) (omega arith) (omega arith), (omega arith, omega arith))
 
 pub word-length-spec : {M : Type 1} → statement M
 word-length-spec =
