@@ -59,7 +59,7 @@ pub fn correct(word: &mut [u8], mode: u32) -> Correction
         return Correction::Unsuitable;
     }
     let most = (mode - 1) as u8;
-    let t = code_word_locator::table();
+    let t = code_word_syndromes::table();
     let found = code_word_corrector::correct_word(&t, word, most);
     if most < found.count {
         return Correction::None;
@@ -91,7 +91,7 @@ pub fn correct_each(words: &mut [u8], mode: u32, counts: &mut [u8], bits: &mut [
         return Answers::Unsuitable;
     }
     let most = (mode - 1) as u8;
-    let t = code_word_locator::table();
+    let t = code_word_syndromes::table();
     code_word_corrector::correct_words(&t, words, long, over, most, counts, bits);
     Answers::Given
 }

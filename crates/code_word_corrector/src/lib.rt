@@ -1,7 +1,8 @@
 // How words are corrected. A word whose syndromes are 0 is left at once; where they are those of one error, it is taken off; else the
 // locator of `code_word_locator` gives fifteen sums, and these the errors. The word with them taken off is tested, and put back where it
 // is not valid.
-// Inner: `code_word` stands over it. It asks for the locator's table, for t from 1 to 3 and for words of at most 15 semi-octets.
+// Inner: `code_word` stands over it. It asks for the table of `code_word_syndromes`, for t from 1 to 3 and for words of at most 15
+// semi-octets.
 ghost use mathlib.Core.Bool.{cond};
 ghost use mathlib.Core.Path.{_≡_};
 ghost use Prim.Native.Nat.{_+_, _^_, _≤_, _<_};
@@ -12,15 +13,15 @@ ghost use Rattle.code_word_laws.specs.Word.{SemiOctets};
 ghost use Rattle.code_word_laws.specs.Correct.{WordCorrected, EachCorrected};
 ghost use Rattle.code_word_laws.specs.Corrector.{TableFor, WordFor, Started, Syndromes, Transformed, ErrorWord, Acceptable, Dealt, Tried};
 ghost use Rattle.code_word_laws.specs.Corrector.{Table, IsTakenOff};
-use code_word_locator::both_counts;
-use code_word_locator::clear;
 use code_word_locator::find_locator;
-use code_word_locator::inverted;
-use code_word_locator::logarithm;
-use code_word_locator::row;
-use code_word_locator::syndromes;
-use code_word_locator::times;
 use code_word_locator::tripled;
+use code_word_syndromes::both_counts;
+use code_word_syndromes::clear;
+use code_word_syndromes::inverted;
+use code_word_syndromes::logarithm;
+use code_word_syndromes::row;
+use code_word_syndromes::syndromes;
+use code_word_syndromes::times;
 
 // The error values, packed: fifteen sums by the locator, each transformed back as it is made.
 fn errors(t: &[u32; 512], r1: u8, r2: u8, r3: u8, s1: u8, s2: u8, u: u8) -> u64

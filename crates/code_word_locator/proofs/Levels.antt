@@ -1,51 +1,16 @@
 -- The ends of the rule functions: from what their calls answered to the rule, at each level.
 -- Assumes nothing.
-use mathlib.Core.Path.{_≡_, refl, ap, _∙_}
-use mathlib.Core.Bool.{Bool}
+use mathlib.Core.Path.{_≡_, ap, _∙_}
 use mathlib.Core.Logic.{_≢_}
-use mathlib.Core.List.{List, [], _∷_}
-use Prim.Native.Nat.{ℕ, zero, suc, _/_, _≤_, _<_}
+use Prim.Native.Nat.{ℕ, _≤_, _<_}
 use native.Mathlib.Omega.{arith}
-use lib.Dec.{eqb, eqb→eq}
-use lib.ListN.{getD}
-use Rattle.laws.proofs.Every.{at}
-use Rattle.gf16.specs.Field.{product, power, inverse, expanded, lowered, reduced}
+use Rattle.gf16.specs.Field.{product, inverse}
 use Rattle.gf16.proofs.Laws.{product-lt}
 use Rattle.code_word_laws.specs.Packed.{nibble}
 use Rattle.code_word_laws.specs.Corrector.{ThirdMinorZero, SecondMinorZero, IsLocator, minorTwo, triple, minor}
 use Rattle.code_word_laws.proofs.Packed.{nibble-lt}
 use Rattle.code_word_laws.proofs.Locator.{minor0, minor1, minor2, locator-three, locator-two, locator-one}
 use Rattle.code_word_laws.proofs.Correcting.{locator-by}
-
--- the list of the inverses
-unfoldable pub inverses : List ℕ
-inverses = 0 ∷ 1 ∷ 9 ∷ 14 ∷ 13 ∷ 11 ∷ 7 ∷ 6 ∷ 15 ∷ 2 ∷ 12 ∷ 5 ∷ 10 ∷ 4 ∷ 3 ∷ 8 ∷ []
-
-inverses-test : ℕ → Bool
-inverses-test a = eqb (getD inverses a 0) (inverse a)
-
-pub inverses-at : (a : ℕ) → a < 16 → getD inverses a 0 ≡ inverse a
-unfolding inverses inverses-test inverse power product reduced lowered expanded
-inverses-at a h = eqb→eq (getD inverses a 0) (inverse a) (at 16 inverses-test tt a h)
-
--- the list of the logarithms
-unfoldable pub logarithms : List ℕ
-logarithms = 0 ∷ 0 ∷ 1 ∷ 4 ∷ 2 ∷ 8 ∷ 5 ∷ 10 ∷ 3 ∷ 14 ∷ 9 ∷ 7 ∷ 6 ∷ 13 ∷ 11 ∷ 12 ∷ []
-
-logarithms-test : ℕ → Bool
-logarithms-test a = eqb (power 2 (getD logarithms (suc a) 0)) (suc a)
-
-pub logarithms-at : (a : ℕ) → a < 16 → a ≢ 0 → power 2 (getD logarithms a 0) ≡ a
-unfolding logarithms logarithms-test power product reduced lowered expanded
-logarithms-at zero h n = absurd (n refl)
-logarithms-at (suc a) h n = eqb→eq (power 2 (getD logarithms (suc a) 0)) (suc a) (at 15 logarithms-test tt a (omega arith))
-
-places-test : ℕ → Bool
-places-test a = eqb (getD logarithms a 0 / 15) 0
-
-pub logarithms-lt : (a : ℕ) → a < 16 → getD logarithms a 0 < 15
-unfolding logarithms places-test
-logarithms-lt a h = let e = eqb→eq (getD logarithms a 0 / 15) 0 (at 16 places-test tt a h) in omega arith
 
 below : (i a x : ℕ) → x ≡ product i a → x < 16
 below i a x e = rw e (product-lt i a)

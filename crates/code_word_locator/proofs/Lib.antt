@@ -1,3 +1,2 @@
--- What the locator's code asks: its table, and each case of the minors.
-pub mod Tabled
+-- What the locator's code asks: each case of the minors.
 pub mod Levels

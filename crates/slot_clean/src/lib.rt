@@ -1,6 +1,6 @@
 // A received slot unpacked, and told where it is clean (A.53 to A.55): its data put in order as they came, where every word's check
-// semi-octets are those of its data. Inner: `slot_repair` stands over it. It asks for a size and a mode in range and for rooms of their
-// length.
+// semi-octets are those of its data. Inner: `slot_gathering` and `slot_repair` stand over it. It asks for a size and a mode in range and
+// for rooms of their length.
 ghost use mathlib.Core.Path.{_≡_};
 ghost use mathlib.Core.Bool.{true};
 ghost use Prim.Native.Nat.{_*_, _≤_};

@@ -1,41 +1,39 @@
--- What the code that corrects a slot's words all at once asks: the words one after the other as received, what correcting them in one call
--- leaves of each, their data gathered, and the slot's answer from that.
+-- What the code that corrects a slot's words all at once asks: what correcting them in one call leaves of each, and the slot's answer from
+-- that.
 -- Assumes nothing.
 use mathlib.Core.Path.{_≡_, refl, sym, ap, ap₂, _∙_, subst}
 use mathlib.Core.Bool.{Bool, true, false, cond}
-use mathlib.Core.List.{List, [], _∷_, _++_, append-assoc}
+use mathlib.Core.List.{List}
 use Prim.Native.Nat.{ℕ, zero, suc, _+_, _*_, _-_, _/_, _%_, _≤_, _<_}
 use native.Mathlib.Omega.{arith}
 use native.Mathlib.Nat.{suc-mul, div-add-mod', mod-lt}
 use native.Mathlib.Numerals.{add-one}
 use lib.Arith.{digits-div}
-use lib.Dec.{eqb, ltb}
-use lib.ListN.{length, getD, take, drop, length-append, length-drop}
-use lib.Seq.{length-take-le, take-all, take-at, drop-drop}
-use borrow.Author.Tests.{eqb-true, eqb-false, ltb-true, ltb-false}
-use borrow.Rule.Slice.PartMut.{midOf, putMid, same-len-mid}
+use lib.Dec.{ltb}
+use lib.ListN.{length, getD, take, drop, length-drop}
+use lib.Seq.{take-all}
+use borrow.Author.Tests.{ltb-true, ltb-false}
 use Rattle.laws.specs.Tab.{total, Below}
-use Rattle.laws.proofs.Tab.{total-same, total-next, total-none, total-up, below-drop}
+use Rattle.laws.proofs.Tab.{total-same, total-next, total-none, below-drop}
 use Rattle.laws.proofs.Spread.{share}
-use Rattle.code_word_laws.specs.Word.{Fits, semiOctetChanged, bitsChanged, changesBy, distance, IsDistance}
+use Rattle.code_word_laws.specs.Word.{Fits, semiOctetChanged, bitsChanged, changesBy, distance}
 use Rattle.code_word_laws.specs.Make.{coded}
 use Rattle.code_word_laws.specs.Correct.{Near, WordCorrected, lengthAt, startAt, wordAt, Batch, AllCorrected}
 use Rattle.code_word.specs.Correct.{CorrectsEach}
 use Rattle.code_word_laws.proofs.Coded.{coded-only}
-use Rattle.slot_laws.specs.Sizes.{InRange, words, wordLength, dataLength}
+use Rattle.slot_laws.specs.Sizes.{InRange, words, wordLength}
 use Rattle.slot_laws.specs.Words.{piece, dataWord}
-use Rattle.slot_laws.specs.Order.{Data}
 use Rattle.slot_laws.specs.Slot.{codeWord, wordIn}
-use Rattle.slot_clean.specs.Inner.{unpacked, wordFrom, SemiOctetsOf}
-use Rattle.slot_repair.specs.Inner.{AllArrived, GatheredTo, IsGathered, changesTo, IsRepairFrom}
-use Rattle.slot_repair.specs.declared.Outcome.{Outcome}
-use Rattle.slot_repair.specs.declared.Outcome.the-variants.{Repaired, Beyond}
+use Rattle.slot_clean.specs.Inner.{unpacked, wordFrom}
+use Rattle.slot_gathering.specs.Inner.{AllArrived, IsGathered}
+use Rattle.slot_repair.specs.Inner.{changesTo, IsRepairFrom}
+use Rattle.slot_gathering.specs.declared.Outcome.{Outcome}
+use Rattle.slot_gathering.specs.declared.Outcome.the-variants.{Repaired, Beyond}
 use Rattle.slot_laws.proofs.Sizes.{words-low, length-share, lengths, length-low, length-high, checks-fit}
 use Rattle.slot_laws.proofs.Semi.{semi-octets-of, below-of}
-use Rattle.slot_laws.proofs.Words.{joined, below-joined, length-piece, below-piece, joined-piece, piece-joined}
+use Rattle.slot_laws.proofs.Words.{joined, below-joined, below-piece, joined-piece}
 use Rattle.slot_laws.proofs.Slot.{words-in}
-use Rattle.slot_laws.proofs.RoomSteps.{WordPart, room-is, new-data, new-word, same-words-before}
-use Rattle.slot_clean.proofs.Unpacking.{length-from, words-from, word-from}
+use Rattle.slot_clean.proofs.Unpacking.{word-from}
 
 -- ---- the lengths and the places of the words in one row
 
@@ -79,86 +77,6 @@ unfolding piece
 word-at size i n all h l e k =
     ap₂ (λ (x y : ℕ). take (lengthAt x y i) (drop (startAt x y i) all)) e k
     ∙ ap₂ (λ (x y : ℕ). take x (drop y all)) (length-at size i h l) (start-at size i h (omega arith))
-
--- where the next word starts
-pub next-from : (size i from n : ℕ) → from ≡ total (wordLength size) i → n ≡ wordLength size i → from + n ≡ total (wordLength size) (i + 1)
-next-from size i from n e l =
-    ap₂ (λ (x y : ℕ). x + y) e l ∙ sym (total-next (wordLength size) i) ∙ ap (total (wordLength size)) (sym (add-one i))
-
--- ---- the words as received, one after the other
-
--- the first i words stand in front
-pub record ArrivedTo (size mode : ℕ) (places : List ℕ) (i at : ℕ) (all : List ℕ) : Type 0 where
-  pub place : at ≡ total (wordLength size) i
-  pub long : length all ≡ 2 * size
-  pub front : take at all ≡ joined (wordFrom size mode places) i
-
-pub arrived-none : (size mode : ℕ) (places all : List ℕ) → length all ≡ 2 * size → ArrivedTo size mode places 0 0 all
-unfolding joined
-arrived-none size mode places all l = record { place = sym (total-none (wordLength size)); long = l; front = refl }
-
-two-in-front : (a b : ℕ) (xs ys zs : List ℕ) → length xs ≡ a → length ys ≡ b → take (a + b) (xs ++ (ys ++ zs)) ≡ xs ++ ys
-two-in-front a b xs ys zs e f =
-    ap (take (a + b)) (sym (append-assoc xs ys zs)) ∙ take-at (xs ++ ys) zs (a + b) (length-append xs ys ∙ ap₂ (λ (x y : ℕ). x + y) e f)
-
--- word i comes next, to the places from at to e - 1; n is its length
-pub record WordRoom (size mode i at n e : ℕ) (places all : List ℕ) : Type 0 where
-  pub range : InRange size mode
-  pub inside : i < words size
-  pub arrived : ArrivedTo size mode places i at all
-  pub long : n ≡ wordLength size i
-  pub end : e ≡ at + n
-
-module _ {size mode i at n e : ℕ} {places all : List ℕ} (room : WordRoom size mode i at n e places all) where
-  pub arrives-end : e ≤ 2 * size
-  arrives-end =
-      let u = total-up (wordLength size) (suc i) (words size) (room .inside) in
-      let t = total-next (wordLength size) i in
-      let s = lengths size (room .range .size-from) in
-      let p = room .arrived .place in
-      omega arith
-
-  pub arrives-room : length (midOf at (e - at) all) ≡ wordLength size i
-  arrives-room =
-      let d = length-drop at all in
-      let b = arrives-end in
-      let l = room .arrived .long in
-      length-take-le (e - at) (drop at all) (omega arith) ∙ omega arith
-
-  pub arrived-one : (last : List ℕ) → last ≡ wordFrom size mode places i
-      → ArrivedTo size mode places (i + 1) e (putMid at (e - at) all last)
-  unfolding joined
-  arrived-one last is =
-      let k : length last ≡ wordLength size i = ap (λ (x : List ℕ). length x) is ∙ length-from size mode places i in
-      let b = arrives-end in
-      let l = room .arrived .long in
-      record {
-        place = room .end ∙ next-from size i at n (room .arrived .place) (room .long);
-        long = same-len-mid at (e - at) all last (k ∙ sym arrives-room) ∙ l;
-        front =
-            ap (λ (x : ℕ). take x (putMid at (e - at) all last)) (room .end)
-            ∙ two-in-front at n (take at all) last (drop (e - at) (drop at all)) (length-take-le at all (omega arith))
-            (k ∙ sym (room .long))
-            ∙ ap₂ (λ (x y : List ℕ). x ++ y) (room .arrived .front) is
-            ∙ ap (joined (wordFrom size mode places)) (sym (add-one i));
-      }
-
-pub arrived-all : (size mode i at : ℕ) (places all : List ℕ) → InRange size mode → Below 16 places → i ≡ words size
-    → ArrivedTo size mode places i at all
-    → AllArrived size mode places all
-arrived-all size mode i at places all r b e k =
-    let w = words-from size mode places b in
-    let t : at ≡ 2 * size = k .place ∙ ap (total (wordLength size)) e ∙ lengths size (r .size-from) in
-    let l = k .long in
-    let g : all ≡ joined (wordFrom size mode places) (words size) =
-    sym (take-all at all (omega arith)) ∙ k .front ∙ ap (joined (wordFrom size mode places)) e in
-    record {
-      long = k .long;
-      below = rw g (below-joined 16 (wordFrom size mode places) (words size) (omega arith) (λ i l. w .below i l));
-      each = λ i l.
-          ap (λ (x : List ℕ). piece (wordLength size) x i) g
-          ∙ piece-joined (wordFrom size mode places) (wordLength size) (words size) i l (λ j m. w .long j m);
-    }
 
 -- ---- all words corrected in one call
 
@@ -227,99 +145,6 @@ module _ (size mode : ℕ) (places old room bit-room : List ℕ) (range : InRang
         many-bits = a .as-many-bits ∙ bits-some;
         each = λ i k. each-corrected new counts bits a i k;
       }
-
--- ---- the data of a word put where they belong
-
--- what is behind the first c of the first n
-behind-front : (c m n : ℕ) (xs : List ℕ) → n ≡ c + m → take m (drop c xs) ≡ drop c (take n xs)
-behind-front zero m n xs e = let k : m ≡ n = omega arith in ap (λ (x : ℕ). take x xs) k
-behind-front (suc c) m zero xs e = absurd (omega arith)
-behind-front (suc c) zero (suc n) [] e = refl
-behind-front (suc c) (suc m) (suc n) [] e = refl
-behind-front (suc c) m (suc n) (x ∷ xs) e = behind-front c m n xs (omega arith)
-
--- one count more in a sum of counts
-one-more : (counts : List ℕ) (i : ℕ) {sum count : ℕ} → sum ≡ total (λ j. getD counts j 0) i → count ≡ getD counts i 0
-    → sum + count ≡ total (λ j. getD counts j 0) (i + 1)
-one-more counts i s c =
-    ap₂ (λ (x y : ℕ). x + y) s c ∙ sym (total-next (λ j. getD counts j 0) i) ∙ ap (total (λ j. getD counts j 0)) (sym (add-one i))
-
--- the data of word i, which starts at from of all, go to their room
-module _ {size mode i at n e from d : ℕ} {old all : List ℕ} (part : WordPart size mode i at n e old) (whole : SemiOctetsOf size mode all)
-    (from-is : from ≡ total (wordLength size) i) (is : IsDistance mode d) where
-  pub ends-in : from + n ≤ 2 * size
-  ends-in =
-      let u = total-up (wordLength size) (suc i) (words size) (part .inside) in
-      let t = total-next (wordLength size) i in
-      omega (arith, lengths size (part .range .size-from), part .is)
-
-  pub take-fits : from + (d - 1) + length (midOf at (e - at) old) ≤ length all
-  take-fits =
-      let r = room-is part in
-      let f = checks-fit size mode i (part .range) (part .inside) in
-      let b = ends-in in
-      omega (arith, whole .long, is .is, part .is)
-
-  abbrev word : List ℕ
-  word = piece (wordLength size) all i
-
-  word-long : length word ≡ wordLength size i
-  word-long =
-      let t = total-next (wordLength size) i in
-      length-piece (wordLength size) all i (omega (arith, ends-in, whole .long, part .is))
-
-  module _ {last : List ℕ} (copied : last ≡ take (length (midOf at (e - at) old)) (drop (from + (d - 1)) all)) where
-    last-is : last ≡ drop (distance mode - 1) word
-    unfolding piece
-    last-is =
-        let f = checks-fit size mode i (part .range) (part .inside) in
-        copied
-        ∙ ap (λ (x : ℕ). take (length (midOf at (e - at) old)) (drop (from + (x - 1)) all)) (is .is)
-        ∙ ap₂ (λ (x : ℕ) (y : List ℕ). take x y) (room-is part) (sym (drop-drop (distance mode - 1) from all))
-        ∙ behind-front (distance mode - 1) (dataLength size mode i) (wordLength size i) (drop from all) (sym f)
-        ∙ ap (λ (y : ℕ). drop (distance mode - 1) (take (wordLength size i) (drop y all))) from-is
-
-    last-long : length last ≡ dataLength size mode i
-    last-long =
-        let f = checks-fit size mode i (part .range) (part .inside) in
-        let d = length-drop (distance mode - 1) word in
-        ap (λ (s : List ℕ). length s) last-is ∙ d ∙ omega (arith, word-long)
-
-    below-last : Below 16 last
-    below-last = rw last-is (below-drop 16 (distance mode - 1) word (below-piece 16 (wordLength size) all i (omega arith) (whole .below)))
-
-    pub gathered-next : {counts bits : List ℕ} {sum bit-sum count bit-count : ℕ} → GatheredTo size mode all counts bits old i sum bit-sum
-        → count ≡ getD counts i 0 → bit-count ≡ getD bits i 0 → count < mode
-        → GatheredTo size mode all counts bits (putMid at (e - at) old last) (i + 1) (sum + count) (bit-sum + bit-count)
-    gathered-next {counts} {bits} {sum} {bit-sum} {count} {bit-count} g c b l = record {
-      given = new-data part last last-long below-last;
-      each = λ j h. each-next j h (eqb j i) refl;
-      few = λ j h. few-next j h (eqb j i) refl;
-      counted = one-more counts i (g .counted) c;
-      bits-counted = one-more bits i (g .bits-counted) b;
-    }
-      where
-        each-next : (j : ℕ) → j < i + 1 → (b : Bool) → eqb j i ≡ b
-            → dataWord size mode (putMid at (e - at) old last) j ≡ drop (distance mode - 1) (piece (wordLength size) all j)
-        each-next j h true t = rw (eqb-true j i t) (new-word part last last-long below-last ∙ last-is)
-        each-next j h false t =
-            let d : (j ≡ i → ⊥) = eqb-false j i t in
-            let k : j < i = omega arith in
-            same-words-before part last last-long below-last j k ∙ g .each j k
-
-        few-next : (j : ℕ) → j < i + 1 → (b : Bool) → eqb j i ≡ b → getD counts j 0 < mode
-        few-next j h true t = rw (eqb-true j i t) (rw c at l)
-        few-next j h false t = let d : (j ≡ i → ⊥) = eqb-false j i t in g .few j (omega arith)
-
-pub gathered-first : (size mode : ℕ) (all counts bits message : List ℕ) → Data size mode message
-    → GatheredTo size mode all counts bits message 0 0 0
-gathered-first size mode all counts bits message d = record {
-  given = d;
-  each = λ j h. absurd (omega arith);
-  few = λ j h. absurd (omega arith);
-  counted = sym (total-none (λ j. getD counts j 0));
-  bits-counted = sym (total-none (λ j. getD bits j 0));
-}
 
 -- ---- the slot's answer
 

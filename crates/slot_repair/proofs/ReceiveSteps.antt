@@ -1,35 +1,25 @@
--- What the code of correcting a slot asks: a word received, and the answer from all of them, corrected or clean.
+-- What the code of correcting a slot asks: the answer from all words, corrected or clean.
 -- Assumes nothing.
-use mathlib.Core.Path.{_≡_, refl, sym, ap, _∙_}
+use mathlib.Core.Path.{_≡_, sym, ap, _∙_}
 use mathlib.Core.List.{List}
-use Prim.Native.Nat.{ℕ, _-_, _≤_, _<_}
+use Prim.Native.Nat.{ℕ, _-_, _<_}
 use native.Mathlib.Omega.{arith}
-use lib.ListN.{length, getD}
-use Rattle.laws.specs.Tab.{total}
+use lib.ListN.{length}
 use Rattle.laws.proofs.Spread.{total-nil}
-use Rattle.laws.proofs.Tab.{tab-is, total-same}
-use Rattle.laws.proofs.Fill.{Filled, filled-last}
+use Rattle.laws.proofs.Tab.{total-same}
 use Rattle.code_word_laws.specs.Word.{semiOctetChanged, bitsChanged, changesBy}
 use Rattle.code_word_laws.proofs.Changes.{changes-self, semi-octet-same, bits-same}
-use Rattle.slot_laws.specs.Sizes.{InRange, words, wordLength}
+use Rattle.slot_laws.specs.Sizes.{InRange, words}
 use Rattle.slot_laws.specs.Words.{signature}
 use Rattle.slot_laws.specs.Order.{Data}
 use Rattle.slot_laws.specs.Slot.{codeWord, slotWith, wordIn}
 use Rattle.slot_laws.specs.Changes.{slotChanges, changes, bitChanges}
 use Rattle.slot_laws.specs.Corrected.{Corrected}
-use Rattle.slot_clean.specs.Inner.{unpacked, wordFrom, AllClean}
+use Rattle.slot_clean.specs.Inner.{unpacked, AllClean}
 use Rattle.slot_repair.specs.Inner.{changesTo, MendedTo}
 use Rattle.slot_laws.proofs.Places.{Shifted, semi-octets-shifted, bits-shifted, changes-words}
 use Rattle.slot_laws.proofs.Slot.{word-slot, bytes-with, code-word}
-use Rattle.slot_clean.proofs.Unpacking.{length-from, word-from}
-
--- ---- a word received
-
-pub arrived-last : (size mode i n k : ℕ) (places w : List ℕ) → n ≡ wordLength size i → n ≤ k
-    → Filled (λ j. getD (wordFrom size mode places i) j 0) n k w → w ≡ wordFrom size mode places i
-arrived-last size mode i n k places w e l f =
-    let word = wordFrom size mode places i in
-    filled-last (λ j. getD word j 0) n k w f l ∙ tab-is (λ j. getD word j 0) n word (length-from size mode places i ∙ sym e) (λ j m. refl)
+use Rattle.slot_clean.proofs.Unpacking.{word-from}
 
 -- ---- all words corrected
 

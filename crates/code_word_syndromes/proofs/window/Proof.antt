@@ -1,9 +1,9 @@
--- `code_word_locator::window` meets its contract. Assumes nothing.
+-- `code_word_syndromes::window` meets its contract. Assumes nothing.
 use mathlib.Core.Path.{_≡_, sym, ap}
 use Prim.Native.Nat.{ℕ, _+_, _^_}
 use native.Mathlib.Omega.{arith}
-use Rattle.code_word_locator.proofs.window.Statement.{statement}
-use Rattle.code_word_locator.proofs.window.Tie as tie
+use Rattle.code_word_syndromes.proofs.window.Statement.{statement}
+use Rattle.code_word_syndromes.proofs.window.Tie as tie
 
 returns : tie.Need-returns
 returns c =

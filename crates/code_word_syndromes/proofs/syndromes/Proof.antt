@@ -1,12 +1,12 @@
--- `code_word_locator::syndromes` meets its contract. The loop has the syndromes of the semi-octets passed. Assumes nothing.
+-- `code_word_syndromes::syndromes` meets its contract. The loop has the syndromes of the semi-octets passed. Assumes nothing.
 use Prim.Native.Nat.{_≤_, _-_}
 use native.Mathlib.Omega.{arith}
 use lib.ListN.{length}
 use borrow.Author.Needs.{needs}
 use Rattle.code_word_laws.proofs.Division.{semi-octet-at}
 use Rattle.code_word_laws.proofs.Turns.{SpectrumTo, syndromes-first, syndromes-next, syndromes-last}
-use Rattle.code_word_locator.proofs.syndromes.Statement.{statement}
-use Rattle.code_word_locator.proofs.syndromes.Tie as tie
+use Rattle.code_word_syndromes.proofs.syndromes.Statement.{statement}
+use Rattle.code_word_syndromes.proofs.syndromes.Tie as tie
 
 abbrev Inv-loop : tie.InvT-loop
 Inv-loop t word s₀ i₀ s i = (i ≤ length word) × SpectrumTo word i s

@@ -1,4 +1,4 @@
--- `slot_repair::receive` meets its contract. The invariant of its loop stands at the head. Assumes nothing.
+-- `slot_gathering::receive` meets its contract. The invariant of its loop stands at the head. Assumes nothing.
 use mathlib.Core.Path.{refl}
 use Prim.Native.Nat.{ℕ, _≤_, _<_, _-_}
 use native.Mathlib.Omega.{arith}
@@ -9,9 +9,9 @@ use Rattle.slot_laws.specs.Sizes.{wordLength}
 use Rattle.slot_clean.specs.Inner.{wordFrom}
 use Rattle.slot_interleaving.proofs.PlaceSteps.{has-place, in-row}
 use Rattle.slot_clean.proofs.CleanSteps.{from-at}
-use Rattle.slot_repair.proofs.ReceiveSteps.{arrived-last}
-use Rattle.slot_repair.proofs.receive.Statement.{statement}
-use Rattle.slot_repair.proofs.receive.Tie as tie
+use Rattle.slot_gathering.proofs.Arriving.{arrived-last}
+use Rattle.slot_gathering.proofs.receive.Statement.{statement}
+use Rattle.slot_gathering.proofs.receive.Tie as tie
 
 abbrev Inv-loop : tie.InvT-loop
 Inv-loop size i mode places row w₀ count k₀ w k = (k ≤ length w₀) × Filled (λ j. getD (wordFrom size mode places i) j 0) (length w₀) k w

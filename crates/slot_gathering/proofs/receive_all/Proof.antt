@@ -1,11 +1,11 @@
--- `slot_repair::receive_all` meets its contract. The loop has the first words in front, joined. Assumes nothing.
+-- `slot_gathering::receive_all` meets its contract. The loop has the first words in front, joined. Assumes nothing.
 use mathlib.Core.Path.{refl}
 use Prim.Native.Nat.{_≤_, _-_, _+_}
 use native.Mathlib.Omega.{arith}
 use borrow.Author.Needs.{needs}
-use Rattle.slot_repair.proofs.BatchSteps.{ArrivedTo, WordRoom, arrived-none, arrives-end, arrives-room, arrived-one, arrived-all}
-use Rattle.slot_repair.proofs.receive_all.Statement.{statement}
-use Rattle.slot_repair.proofs.receive_all.Tie as tie
+use Rattle.slot_gathering.proofs.Arriving.{ArrivedTo, WordRoom, arrived-none, arrives-end, arrives-room, arrived-one, arrived-all}
+use Rattle.slot_gathering.proofs.receive_all.Statement.{statement}
+use Rattle.slot_gathering.proofs.receive_all.Tie as tie
 
 abbrev Inv-loop : tie.InvT-loop
 Inv-loop size mode places all₀ count at₀ i₀ all at i = (i ≤ count) × ArrivedTo size mode places i at all

@@ -1,4 +1,4 @@
--- `slot_repair::gather` meets its contract. The loop has the data of the first words where they belong, and the sum of their counts.
+-- `slot_gathering::gather` meets its contract. The loop has the data of the first words where they belong, and the sum of their counts.
 -- Assumes nothing.
 use mathlib.Core.Path.{_≡_, refl, sym, _∙_}
 use Prim.Native.Nat.{_≤_, _-_, _+_, _*_, _<_}
@@ -8,12 +8,13 @@ use borrow.Author.Needs.{needs}
 use Rattle.laws.specs.Tab.{total}
 use Rattle.laws.proofs.Tab.{total-none}
 use Rattle.slot_laws.specs.Sizes.{words, wordLength, dataLength}
-use Rattle.slot_repair.specs.Inner.{GatheredTo}
+use Rattle.slot_gathering.specs.Inner.{GatheredTo}
 use Rattle.slot_laws.proofs.Sizes.{words-high}
 use Rattle.slot_laws.proofs.RoomSteps.{WordPart, word-part, start-first, next-start, before-end, end-few}
-use Rattle.slot_repair.proofs.BatchSteps.{ends-in, take-fits, next-from, gathered-next, gathered-first}
-use Rattle.slot_repair.proofs.gather.Statement.{statement}
-use Rattle.slot_repair.proofs.gather.Tie as tie
+use Rattle.slot_gathering.proofs.Arriving.{next-from}
+use Rattle.slot_gathering.proofs.Gathering.{ends-in, take-fits, gathered-next, gathered-first}
+use Rattle.slot_gathering.proofs.gather.Statement.{statement}
+use Rattle.slot_gathering.proofs.gather.Tie as tie
 
 abbrev Inv-loop : tie.InvT-loop
 Inv-loop size mode all counts bits message₀ checks from₀ at₀ sum₀ bit-sum₀ i₀ message from at sum bit-sum i =

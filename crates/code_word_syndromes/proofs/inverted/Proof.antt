@@ -1,4 +1,4 @@
--- `code_word_locator::inverted` meets its contract. Assumes nothing.
+-- `code_word_syndromes::inverted` meets its contract. Assumes nothing.
 use mathlib.Core.Path.{_≡_, ap, _∙_}
 use Prim.Native.Nat.{ℕ}
 use native.Mathlib.Omega.{arith}
@@ -6,9 +6,9 @@ use lib.ListN.{getD}
 use borrow.Author.Needs.{needs}
 use Rattle.gf16.proofs.Laws.{inverse-lt}
 use Rattle.gf16.specs.Field.{inverse}
-use Rattle.code_word_locator.proofs.Levels.{inverses, inverses-at}
-use Rattle.code_word_locator.proofs.inverted.Statement.{statement}
-use Rattle.code_word_locator.proofs.inverted.Tie as tie
+use Rattle.code_word_syndromes.proofs.Inverses.{inverses, inverses-at}
+use Rattle.code_word_syndromes.proofs.inverted.Statement.{statement}
+use Rattle.code_word_syndromes.proofs.inverted.Tie as tie
 
 returns : tie.Need-returns
 unfolding inverses

@@ -1,12 +1,12 @@
--- `code_word_locator::both_counts` meets its contract. Assumes nothing.
+-- `code_word_syndromes::both_counts` meets its contract. Assumes nothing.
 use mathlib.Core.Path.{ap, _∙_}
 use Prim.Native.Nat.{ℕ, _*_, _%_}
 use native.Mathlib.Omega.{arith}
 use lib.ListN.{getD}
 use borrow.Author.Needs.{needs}
 use Rattle.code_word_laws.proofs.Changes.{both-few}
-use Rattle.code_word_locator.proofs.both_counts.Statement.{statement}
-use Rattle.code_word_locator.proofs.both_counts.Tie as tie
+use Rattle.code_word_syndromes.proofs.both_counts.Statement.{statement}
+use Rattle.code_word_syndromes.proofs.both_counts.Tie as tie
 
 returns : tie.Need-returns
 returns c =

@@ -1,12 +1,12 @@
--- `code_word_locator::row` meets its contract. Assumes nothing.
+-- `code_word_syndromes::row` meets its contract. Assumes nothing.
 use mathlib.Core.Path.{ap, ap₂, _∙_}
 use Prim.Native.Nat.{ℕ, _+_, _*_}
 use native.Mathlib.Omega.{arith}
 use borrow.Author.Needs.{needs}
 use Rattle.code_word_laws.specs.Packed.{nibble}
 use Rattle.code_word_laws.specs.Corrector.{numberAt}
-use Rattle.code_word_locator.proofs.row.Statement.{statement}
-use Rattle.code_word_locator.proofs.row.Tie as tie
+use Rattle.code_word_syndromes.proofs.row.Statement.{statement}
+use Rattle.code_word_syndromes.proofs.row.Tie as tie
 
 returns : tie.Need-returns
 returns c =

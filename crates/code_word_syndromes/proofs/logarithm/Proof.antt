@@ -1,13 +1,13 @@
--- `code_word_locator::logarithm` meets its contract. Assumes nothing.
+-- `code_word_syndromes::logarithm` meets its contract. Assumes nothing.
 use mathlib.Core.Path.{_≡_, ap, _∙_}
 use Prim.Native.Nat.{ℕ}
 use native.Mathlib.Omega.{arith}
 use lib.ListN.{getD}
 use borrow.Author.Needs.{needs}
 use Rattle.gf16.specs.Field.{power}
-use Rattle.code_word_locator.proofs.Levels.{logarithms, logarithms-at, logarithms-lt}
-use Rattle.code_word_locator.proofs.logarithm.Statement.{statement}
-use Rattle.code_word_locator.proofs.logarithm.Tie as tie
+use Rattle.code_word_syndromes.proofs.Inverses.{logarithms, logarithms-at, logarithms-lt}
+use Rattle.code_word_syndromes.proofs.logarithm.Statement.{statement}
+use Rattle.code_word_syndromes.proofs.logarithm.Tie as tie
 
 returns : tie.Need-returns
 unfolding logarithms

@@ -1,12 +1,12 @@
--- `code_word_locator::times` meets its contract. Assumes nothing.
+-- `code_word_syndromes::times` meets its contract. Assumes nothing.
 use mathlib.Core.Path.{ap, _∙_}
 use Prim.Native.Nat.{ℕ, _+_, _*_, _/_}
 use native.Mathlib.Omega.{arith}
 use lib.ListN.{getD}
 use borrow.Author.Needs.{needs}
 use Rattle.gf16.proofs.Laws.{product-lt}
-use Rattle.code_word_locator.proofs.times.Statement.{statement}
-use Rattle.code_word_locator.proofs.times.Tie as tie
+use Rattle.code_word_syndromes.proofs.times.Statement.{statement}
+use Rattle.code_word_syndromes.proofs.times.Tie as tie
 
 cast-result : tie.Need-cast-result
 cast-result c =

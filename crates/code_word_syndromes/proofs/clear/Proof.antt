@@ -1,10 +1,10 @@
--- `code_word_locator::clear` meets its contract. Assumes nothing.
+-- `code_word_syndromes::clear` meets its contract. Assumes nothing.
 use Prim.Native.Nat.{_+_}
 use native.Mathlib.Omega.{arith}
 use borrow.Author.Needs.{needs}
 use Rattle.code_word_laws.proofs.Turns.{clears, pow-pos}
-use Rattle.code_word_locator.proofs.clear.Statement.{statement}
-use Rattle.code_word_locator.proofs.clear.Tie as tie
+use Rattle.code_word_syndromes.proofs.clear.Statement.{statement}
+use Rattle.code_word_syndromes.proofs.clear.Tie as tie
 
 rem-result : tie.Need-rem-result
 rem-result c = let e = c .window .ensures in omega (arith, pow-pos (c .before .args .most + c .before .args .most))
