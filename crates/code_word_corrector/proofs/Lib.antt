@@ -1,3 +1,2 @@
--- What the corrector's code asks: one error taken off, and word after word.
-pub mod Single
+-- What the corrector's code asks: word after word.
 pub mod Batch

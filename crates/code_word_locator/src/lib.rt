@@ -1,13 +1,15 @@
-// The error locator: from a word's syndromes the recurrence by which the sums of at most t errors go on.
-// Inner: `code_word_corrector` stands over it. It asks for the table that `code_word_syndromes` gives, for t from 1 to 3 and for
-// semi-octets.
+// The error locator and the error word: from a word's syndromes the recurrence by which the sums of at most t errors go on, and the errors
+// that these sums are transformed back to. Inner: `code_word_corrector` stands over it. It asks for the table that `code_word_syndromes`
+// gives, for t from 1 to 3 and for semi-octets.
 ghost use mathlib.Core.Path.{_≡_};
 ghost use mathlib.Core.List.{[], _∷_};
-ghost use Prim.Native.Nat.{_%_, _^_, _<_};
+ghost use Prim.Native.Nat.{_<_};
 ghost use Rattle.code_word_laws.specs.Word.{SemiOctets};
 ghost use Rattle.code_word_laws.specs.Corrector.{Table, TableFor, IsLocator, minorTwo, triple};
+ghost use Rattle.code_word_laws.specs.Corrector.{Started, Transformed, ErrorWord};
 ghost use Rattle.code_word_laws.specs.Corrector.{ThirdMinorZero, MinorsZero, ThirdMinor, SecondMinor};
 use code_word_syndromes::inverted;
+use code_word_syndromes::row;
 use code_word_syndromes::times;
 
 // A minor of two rows of the sums.
@@ -21,7 +23,7 @@ fn minor_two(t: &[u32; 512], a: u8, b: u8, c: u8, d: u8) -> u8
 }
 
 // A sum of three products: a minor of three rows along its last, or a sum by the locator.
-pub fn tripled(t: &[u32; 512], a: u8, x: u8, b: u8, y: u8, c: u8, z: u8) -> u8
+fn tripled(t: &[u32; 512], a: u8, x: u8, b: u8, y: u8, c: u8, z: u8) -> u8
     requires { ⌜ Table (now t) ⌝ }
     requires { ⌜ SemiOctets (a ∷ x ∷ b ∷ y ∷ c ∷ z ∷ []) ⌝ }
     ensures { λ r. ⌜ r ≡ triple a x b y c z ⌝ }
@@ -116,7 +118,7 @@ fn locator_low(t: &[u32; 512], s: u64, most: u8) -> Locator
 }
 
 // The locator of at most t errors with these syndromes.
-pub fn find_locator(t: &[u32; 512], s: u64, most: u8) -> Locator
+fn find_locator(t: &[u32; 512], s: u64, most: u8) -> Locator
     requires { ⌜ TableFor (now t) most ⌝ }
     ensures { λ r. ⌜ IsLocator most s (r .0) (r .1) (r .2) (r .3) ⌝ }
 {
@@ -136,4 +138,36 @@ pub fn find_locator(t: &[u32; 512], s: u64, most: u8) -> Locator
         return locator_three(t, s, d);
     }
     locator_low(t, s, most)
+}
+
+// The error values, packed: fifteen sums by the locator, each transformed back as it is made.
+fn errors(t: &[u32; 512], r1: u8, r2: u8, r3: u8, s1: u8, s2: u8, u: u8) -> u64
+    requires { ⌜ Started (now t) r1 r2 r3 s1 s2 u ⌝ }
+    ensures { λ e. ⌜ Transformed r1 r2 r3 s1 s2 u e ⌝ }
+{
+    let mut e = (row(t, 14, s1) ^ row(t, 13, s2)) ^ row(t, 12, u);
+    let mut a = u;
+    let mut b = s2;
+    let mut c = s1;
+    let mut n: usize = 12;
+    while 0 < n {
+        let x = tripled(t, r2, b, r3, c, r1, a);
+        e = e ^ row(t, n - 1, x);
+        c = b;
+        b = a;
+        a = x;
+        n = n - 1;
+    }
+    e
+}
+
+// The error word: the errors that explain the syndromes, if at most t do.
+pub fn error_word(t: &[u32; 512], s: u64, most: u8) -> u64
+    requires { ⌜ TableFor (now t) most ⌝ }
+    ensures { λ e. ⌜ ErrorWord most s e ⌝ }
+{
+    let r = find_locator(t, s, most);
+    let s1 = (s / 16 % 16) as u8;
+    let s2 = (s / 16 / 16 % 16) as u8;
+    errors(t, r.0, r.1, r.2, s1, s2, r.3)
 }

@@ -1,12 +1,13 @@
 // A frame read into its fields under C names, lent as it is or as an entry of a record, and the number of lines. It stands over
-// `silberlaus_sizes` and `silberlaus_frames`.
+// `silberlaus_sizes`, `silberlaus_frames` and `silberlaus_entries`.
 ghost use mathlib.Core.Path.{_≡_};
 ghost use lib.ListN.{length};
 ghost use Rattle.frame_settings.specs.Settings.{lineCount};
 ghost use Rattle.frame.specs.Frame.{judgedOf};
 ghost use Rattle.frame_arithmetic.specs.Answers.{Answers};
 ghost use Rattle.frame_arithmetic.specs.Sound.{Bounded};
-ghost use Rattle.silberlaus_frames.specs.Frames.{frameGiven, judgedEntry};
+ghost use Rattle.silberlaus_entries.specs.Entries.{judgedEntry};
+ghost use Rattle.silberlaus_frames.specs.Frames.{frameGiven};
 use silberlaus_frames::SilberlausFrame;
 
 // The lines of a rate, 0 where it is none.
@@ -51,5 +52,5 @@ pub extern "C" fn silberlaus_read_entry(
         ⌝ }
     ensures { λ r. ⌜ Bounded (frameGiven r) (now (spectrum .exit)) ⌝ }
 {
-    silberlaus_frames::read_entry(bytes, place, khz, spectrum, residual)
+    silberlaus_entries::read_entry(bytes, place, khz, spectrum, residual)
 }

@@ -1,2 +1,2 @@
--- An entry's frame read in place.
-pub mod Entry
+-- From the answer of the frame reader to that of the C face.
+pub mod Returns

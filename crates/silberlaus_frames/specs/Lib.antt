@@ -1,2 +1,2 @@
--- The answers of `frame` over the fields of C's struct, and what reading an entry of a record answers.
+-- The answers of `frame` over the fields of C's struct.
 pub mod Frames

@@ -1,13 +1,12 @@
-// A frame read into the fields of C's struct with document 01's numbers, lent as it is or as an entry of a record. It stands over `frame`
-// and `record`.
-// Inner: `silberlaus` stands over it. It asks nothing.
+// A frame read into the fields of C's struct, with document 01's numbers. It stands over `frame`.
+// Inner: `silberlaus_entries` and `silberlaus` stand over it. It asks nothing.
 ghost use mathlib.Core.Path.{_≡_};
 ghost use lib.ListN.{length};
 ghost use Rattle.frame.specs.Frame.{judgedOf};
 ghost use Rattle.frame_answers.specs.Answers.{noFields, refusedWith, told};
 ghost use Rattle.frame_arithmetic.specs.Answers.{Answers};
 ghost use Rattle.frame_arithmetic.specs.Sound.{Bounded};
-ghost use Rattle.silberlaus_frames.specs.Frames.{given, frameGiven, judgedEntry, missing};
+ghost use Rattle.silberlaus_frames.specs.Frames.{given, frameGiven};
 use frame::Answer;
 use frame::Fields;
 use frame::Flags;
@@ -121,14 +120,14 @@ fn flattened(number: u8, cause: u8, f: Fields, first: [u8; 8], second: [u8; 8]) 
 }
 
 // A refusal that no frame was read for.
-fn unread(number: u8) -> SilberlausFrame
+pub fn unread(number: u8) -> SilberlausFrame
     ensures { λ r. ⌜ frameGiven r ≡ refusedWith number 0 ⌝ }
 {
     flattened(number, 0, no_fields(), [0; 8], [0; 8])
 }
 
 // The answer of the frame reader, by document 01's numbers.
-fn numbered(r: Reading) -> SilberlausFrame
+pub fn numbered(r: Reading) -> SilberlausFrame
     ensures { λ o. ⌜ frameGiven o ≡ told r ⌝ }
 {
     let first = r.tns_coefficients_0;
@@ -157,43 +156,4 @@ pub fn read_frame(
     ensures { λ r. ⌜ Bounded (frameGiven r) (now (spectrum .exit)) ⌝ }
 {
     numbered(frame::read(khz, bytes, spectrum, residual))
-}
-
-// Why there is no frame at a place: 7 or 1.
-fn why_missing(bytes: &[u8], place: usize) -> u8
-    ensures { λ r. ⌜ r ≡ missing (now (bytes .entry)) place ⌝ }
-{
-    record::entry(bytes, place).number()
-}
-
-// The frame of the entry at a place, a part of the record that goes on to the frame reader uncopied.
-pub fn read_entry(
-    bytes: &[u8],
-    place: usize,
-    khz: u32,
-    spectrum: &mut [i32],
-    residual: &mut [u8],
-) -> SilberlausFrame
-    ensures { λ r. ⌜
-        Answers (frameGiven r)
-        (judgedEntry khz (now (bytes .entry)) place (length (now (spectrum .entry))) (length (now (residual .entry))))
-        (now (spectrum .entry)) (now (spectrum .exit)) (now (residual .entry)) (now (residual .exit))
-        ⌝ }
-    ensures { λ r. ⌜ Bounded (frameGiven r) (now (spectrum .exit)) ⌝ }
-{
-    let lines = frame::line_count(khz);
-    if lines == 0 {
-        return unread(1);
-    }
-    if spectrum.len() != lines {
-        return unread(2);
-    }
-    if residual.len() != lines {
-        return unread(2);
-    }
-    let part = record::frame(bytes, place);
-    if part.len() == 0 {
-        return unread(why_missing(bytes, place));
-    }
-    numbered(frame::read(khz, part, spectrum, residual))
 }

@@ -1,6 +1,6 @@
 -- What C's struct of an answer tells.
 -- Assumes nothing.
-use Rattle.slot.specs.Unprotect.{Told}
+use Rattle.slot_answers.specs.Answers.{Told}
 use Rattle.silberlaus_slots.specs.declared.SilberlausUnprotected.{SilberlausUnprotected}
 
 abbrev pub toldOf : SilberlausUnprotected → Told

@@ -11,7 +11,8 @@ use Rattle.slot_laws.specs.Changes.{changes}
 use Rattle.slot_laws.specs.Corrected.{Corrected}
 use Rattle.slot_laws.proofs.Sizes.{words-high, frame-bounds}
 use Rattle.slot_laws.proofs.Places.{semi-octets-shifted, changes-words, bit-changes-between}
-use Rattle.slot.specs.Unprotect.{Told, IsAccepted, Unprotects, Recordable}
+use Rattle.slot_answers.specs.Answers.{Told}
+use Rattle.slot.specs.Unprotect.{IsAccepted, Unprotects, Recordable}
 use Rattle.slot.proofs.Rule.{is-accepted}
 
 -- at most m - 1 changes in each of at most 54 words

@@ -19,7 +19,8 @@ use Rattle.slot_laws.specs.Slot.{Sent, slotOf, wordIn}
 use Rattle.slot_laws.specs.Changes.{changed, slotChanges, changes, bitChanges, changesIn, AtMost}
 use Rattle.slot_protection.specs.Protect.{Lengths, Protects}
 use Rattle.slot_laws.specs.Corrected.{Corrected}
-use Rattle.slot.specs.Unprotect.{Told, acceptedWith, Taken, IsAccepted, Promised, Unprotects}
+use Rattle.slot_answers.specs.Answers.{Told, acceptedWith}
+use Rattle.slot.specs.Unprotect.{Taken, IsAccepted, Promised, Unprotects}
 use Rattle.slot.specs.Demand.{DemandThree}
 use Rattle.slot_laws.proofs.Semi.{semi-same}
 use Rattle.slot_laws.proofs.Places.{semi-octets-shifted, changes-words, changes-word}

@@ -13,7 +13,8 @@ use Rattle.slot_laws.specs.Words.{signature, received}
 use Rattle.slot_laws.specs.Slot.{slotOf, wordIn}
 use Rattle.slot_laws.specs.Changes.{changes, bitChanges}
 use Rattle.slot_laws.specs.Corrected.{Corrected, SomeBeyond}
-use Rattle.slot.specs.Unprotect.{Told, acceptedWith, refusedWith, Taken, IsAccepted, Refused, IsForeign, Promised, Unprotects}
+use Rattle.slot_answers.specs.Answers.{Told, acceptedWith, refusedWith}
+use Rattle.slot.specs.Unprotect.{Taken, IsAccepted, Refused, IsForeign, Promised, Unprotects}
 use Rattle.slot_laws.proofs.Sizes.{length-high}
 use Rattle.slot_laws.proofs.Semi.{semi-octets-of}
 use Rattle.slot_laws.proofs.Places.{slot-received, slot-same}

@@ -13,7 +13,8 @@ use Rattle.slot_laws.specs.Sizes.{words, hash1, frameSize, dataSize}
 use Rattle.slot_laws.specs.Order.{requestSwapped, Data}
 use Rattle.slot_laws.specs.Slot.{slotWith}
 use Rattle.slot_protection.specs.Protect.{Protects}
-use Rattle.slot.specs.Unprotect.{Told, acceptedWith, refusedWith, Taken, Unprotects}
+use Rattle.slot_answers.specs.Answers.{Told, acceptedWith, refusedWith}
+use Rattle.slot.specs.Unprotect.{Taken, Unprotects}
 use Rattle.slot.specs.Demand.{Carried}
 use Rattle.slot_laws.specs.Back.{rolled, requestIn, restIn, Matches, requestOf, frameOf}
 use Rattle.slot_repair.specs.Inner.{MendedTo}

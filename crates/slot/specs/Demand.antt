@@ -7,7 +7,8 @@ use Prim.Native.Nat.{ℕ, _-_, _*_}
 use Rattle.slot_laws.specs.Changes.{changes, bitChanges, AtMost}
 use Rattle.slot_laws.specs.Sizes.{Settings}
 use Rattle.slot_protection.specs.Protect.{Lengths, Protects}
-use Rattle.slot.specs.Unprotect.{Told, acceptedWith, Clean}
+use Rattle.slot_answers.specs.Answers.{Told, acceptedWith}
+use Rattle.slot.specs.Unprotect.{Clean}
 
 -- the sender's request and frame come back, and the counts are those of all changed semi-octets and of all changed bits
 pub record ComesBack (size q : ℕ) (frame sent slot new : List ℕ) (answer : Told) : Type 0 where

@@ -1,4 +1,4 @@
--- What unprotecting answers: document 01's number and values for each case of the enum, and what each number promises.
+-- What each number that unprotecting answers promises.
 -- Assumes nothing.
 use mathlib.Core.Path.{_≡_}
 use mathlib.Core.Logic.{_↔_}
@@ -10,32 +10,8 @@ use Rattle.slot_laws.specs.Sizes.{InRange}
 use Rattle.slot_laws.specs.Slot.{Sent, slotOf}
 use Rattle.slot_laws.specs.Changes.{changes, bitChanges}
 use Rattle.slot_protection.specs.Protect.{Lengths}
-use Rattle.slot.specs.declared.Reception.{Reception}
-use Rattle.slot.specs.declared.Reception.the-variants.{Accepted, Setting, Length, Beyond, Foreign}
+use Rattle.slot_answers.specs.Answers.{Told, refusedWith}
 use Rattle.slot_laws.specs.Corrected.{Corrected, SomeBeyond}
-
--- what an answer tells beside the frame: document 01's number, the request, the count of changed semi-octets and that of changed bits
-pub record Told : Type 0 where
-  pub number : ℕ
-  pub request : ℕ
-  pub count : ℕ
-  pub bits : ℕ
-
--- an accepted slot's answer
-abbrev pub acceptedWith : ℕ → ℕ → ℕ → Told
-acceptedWith q n b = record { number = 0; request = q; count = n; bits = b }
-
--- a refusal: its number, and zero in every other field
-abbrev pub refusedWith : ℕ → Told
-refusedWith number = record { number = number; request = 0; count = 0; bits = 0 }
-
--- 0: accepted; 1: a setting is out of range; 2: a buffer hasn't its length; 3: a word beyond repair; 4: no frame and request make it
-abbrev pub toldOf : Reception → Told
-toldOf (Accepted q n b) = acceptedWith q n b
-toldOf Setting = refusedWith 1
-toldOf Length = refusedWith 2
-toldOf Beyond = refusedWith 3
-toldOf Foreign = refusedWith 4
 
 -- a call that gets neither 1 nor 2
 pub record Taken (size mode : ℕ) (slot old : List ℕ) : Type 0 where

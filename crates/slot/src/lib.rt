@@ -2,39 +2,16 @@
 // Promised for every input: `protect` leaves exactly the slot that specs/ of `slot_laws` makes step by step in the annex's order, or
 // refuses with 1 or 2; `unprotect` answers by document 01's rule, which leaves no choice, and writes the frame on 0 alone; `carry` is
 // demand 3 of the two.
-ghost use mathlib.Core.Path.{_≡_};
 ghost use Rattle.slot_laws.specs.Sizes.{InRange};
-ghost use Rattle.slot.specs.Unprotect.{toldOf, Unprotects, Recordable};
+ghost use Rattle.slot_answers.specs.Answers.{toldOf};
+ghost use Rattle.slot.specs.Unprotect.{Unprotects, Recordable};
 ghost use Rattle.slot.specs.Inner.{Judgeable};
 ghost use Rattle.slot.specs.Demand.{Sends, Carried};
+pub use slot_answers::Reception;
 pub use slot_protection::Protection;
 pub use slot_protection::protect;
 use slot_repair::Outcome;
 pub use slot_sizes::frame_size;
-
-// What unprotecting found: the request and the counts of changed semi-octets and of changed bits, or document 01's refusal 1, 2, 3 or 4.
-pub enum Reception {
-    Accepted(u8, u16, u16),
-    Setting,
-    Length,
-    Beyond,
-    Foreign,
-}
-
-impl Reception {
-    // Document 01's number.
-    pub fn number(self) -> u8
-        ensures { λ r. ⌜ r ≡ toldOf self .number ⌝ }
-    {
-        match self {
-            Reception::Accepted(_, _, _) => 0,
-            Reception::Setting => 1,
-            Reception::Length => 2,
-            Reception::Beyond => 3,
-            Reception::Foreign => 4,
-        }
-    }
-}
 
 // What was received, by document 01's rule, the mode told.
 pub fn unprotect(size: usize, mode: u32, slot: &[u8], frame: &mut [u8]) -> Reception

@@ -1,2 +1,2 @@
--- What protecting answers.
+-- What the numbers of `slot_answers` promise of protecting.
 pub mod Protect

@@ -1,4 +1,4 @@
--- What protecting answers: document 01's number for each case of the enum, and what each number promises.
+-- What each number that protecting answers promises.
 -- Assumes nothing.
 use mathlib.Core.Path.{_≡_}
 use mathlib.Core.List.{List}
@@ -7,8 +7,6 @@ use lib.ListN.{length}
 use Rattle.laws.specs.Tab.{Below}
 use Rattle.slot_laws.specs.Sizes.{Settings, frameSize}
 use Rattle.slot_laws.specs.Slot.{slotOf}
-use Rattle.slot_protection.specs.declared.Protection.{Protection}
-use Rattle.slot_protection.specs.declared.Protection.the-variants.{Protected, Setting, Length}
 
 -- the lent buffers: the frame and the slot
 pub record Lengths (size mode : ℕ) (frame slot : List ℕ) : Type 0 where
@@ -32,12 +30,6 @@ pub record BadLength (size mode q : ℕ) (frame old new : List ℕ) : Type 0 whe
   pub settings : Settings size mode q
   pub unfit : Lengths size mode frame old → ⊥
   pub kept : new ≡ old
-
--- 0: protected; 1: a setting is out of range; 2: a buffer hasn't its length
-abbrev pub numberOf : Protection → ℕ
-numberOf Protected = 0
-numberOf Setting = 1
-numberOf Length = 2
 
 -- the promise: the slot lent, the slot left, and the number
 abbrev pub Protects : ℕ → ℕ → ℕ → List ℕ → List ℕ → List ℕ → ℕ → Type 0

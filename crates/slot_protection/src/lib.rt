@@ -1,33 +1,14 @@
 // A frame protected in a slot (A.1.5): the data put in order, and the words to their places. `protect` is total, leaves exactly the slot
 // that specs/ of `slot_laws` makes, or refuses with 1 or 2 (specs/Protect.antt).
 // Inner: `slot` stands over it and hands `protect` on to callers. It asks nothing.
-ghost use mathlib.Core.Path.{_≡_};
 ghost use Rattle.slot_laws.specs.Sizes.{Settings};
-ghost use Rattle.slot_protection.specs.Protect.{numberOf, Protects};
-
-// Whether a slot was made; document 01's 0, 1 and 2.
-pub enum Protection {
-    Protected,
-    Setting,
-    Length,
-}
-
-impl Protection {
-    // Document 01's number.
-    pub fn number(self) -> u8
-        ensures { λ r. ⌜ r ≡ numberOf self ⌝ }
-    {
-        match self {
-            Protection::Protected => 0,
-            Protection::Setting => 1,
-            Protection::Length => 2,
-        }
-    }
-}
+ghost use Rattle.slot_answers.specs.Answers.{protectedNumber};
+ghost use Rattle.slot_protection.specs.Protect.{Protects};
+pub use slot_answers::Protection;
 
 // Annex A's slot of a frame and a request.
 pub fn protect(size: usize, mode: u32, request: u32, frame: &[u8], slot: &mut [u8]) -> Protection
-    ensures { λ r. ⌜ Protects size mode request (now (frame .entry)) (now (slot .entry)) (now (slot .exit)) (numberOf r) ⌝ }
+    ensures { λ r. ⌜ Protects size mode request (now (frame .entry)) (now (slot .entry)) (now (slot .exit)) (protectedNumber r) ⌝ }
 {
     match size {
         40..=400 => match mode {
@@ -49,7 +30,7 @@ fn protect_sized(
     slot: &mut [u8],
 ) -> Protection
     requires { ⌜ Settings size mode request ⌝ }
-    ensures { λ r. ⌜ Protects size mode request (now (frame .entry)) (now (slot .entry)) (now (slot .exit)) (numberOf r) ⌝ }
+    ensures { λ r. ⌜ Protects size mode request (now (frame .entry)) (now (slot .entry)) (now (slot .exit)) (protectedNumber r) ⌝ }
 {
     if frame.len() != slot_sizes::frame_bytes(size, mode) {
         return Protection::Length;

@@ -13,7 +13,7 @@ use Rattle.code_word_laws.proofs.Correcting.{
   correct-word-accepted,
   correct-word-refused,
 }
-use Rattle.code_word_corrector.proofs.Single.{bits-of}
+use Rattle.code_word_errors.proofs.Single.{bits-of}
 use Rattle.code_word_corrector.proofs.correct_word.Statement.{statement}
 use Rattle.code_word_corrector.proofs.correct_word.Tie as tie
 

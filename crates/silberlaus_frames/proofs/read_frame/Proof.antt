@@ -3,7 +3,7 @@ use mathlib.Core.Path.{refl}
 use borrow.Author.Needs.{needs}
 use Rattle.silberlaus_frames.proofs.read_frame.Statement.{statement}
 use Rattle.silberlaus_frames.proofs.read_frame.Tie as tie
-use Rattle.silberlaus_frames.proofs.Entry.{reading}
+use Rattle.silberlaus_frames.proofs.Returns.{reading}
 
 returns : tie.Need-returns
 returns c =

@@ -2,7 +2,7 @@
 use borrow.Author.Needs.{needs}
 use Rattle.slot.proofs.unprotect.Statement.{statement}
 use Rattle.slot.proofs.unprotect.Tie as tie
-use Rattle.slot.specs.Unprotect.{toldOf}
+use Rattle.slot_answers.specs.Answers.{toldOf}
 use Rattle.slot.proofs.Bounds.{recordable}
 
 returns : tie.Need-returns

@@ -1,4 +1,4 @@
--- `silberlaus_frames::read_entry` meets its contract, test by test in the order of the refusals. Assumes nothing.
+-- `silberlaus_entries::read_entry` meets its contract, test by test in the order of the refusals. Assumes nothing.
 use mathlib.Core.Path.{_≡_}
 use native.Mathlib.Omega.{arith}
 use lib.ListN.{length}
@@ -6,9 +6,10 @@ use denote.Ref.{now}
 use borrow.Author.Needs.{needs}
 use Rattle.frame_settings.specs.Settings.{lineCount}
 use Rattle.record_bytes.proofs.Numbers.{Bytes}
-use Rattle.silberlaus_frames.proofs.read_entry.Statement.{statement}
-use Rattle.silberlaus_frames.proofs.read_entry.Tie as tie
-use Rattle.silberlaus_frames.proofs.Entry.{refusal, reading, no-rate, other-spectrum, other-residual, no-frame, part-read}
+use Rattle.silberlaus_entries.proofs.read_entry.Statement.{statement}
+use Rattle.silberlaus_entries.proofs.read_entry.Tie as tie
+use Rattle.silberlaus_frames.proofs.Returns.{refusal, reading}
+use Rattle.silberlaus_entries.proofs.Entry.{no-rate, other-spectrum, other-residual, no-frame, part-read}
 
 -- what is known once the rate and both buffers are tested: the record's bytes, a rate in range, and buffers of its length
 tested : (c : tie.After-frame)

@@ -1,4 +1,4 @@
--- `code_word_corrector::take_off` meets its contract. The loop has the front done and the rest as it was. Assumes nothing.
+-- `code_word_errors::take_off` meets its contract. The loop has the front done and the rest as it was. Assumes nothing.
 use mathlib.Core.Path.{refl, sym, ap, _∙_}
 use Prim.Native.Nat.{_≤_, _-_, _*_}
 use native.Mathlib.Omega.{arith}
@@ -8,8 +8,8 @@ use borrow.Author.Needs.{needs}
 use Rattle.code_word_laws.specs.Corrector.{bothChanged, bothOf}
 use Rattle.code_word_laws.proofs.Changes.{both-changed, both-apart}
 use Rattle.code_word_laws.proofs.Turns.{TakenTo, taken-first, taken-next, taken-last}
-use Rattle.code_word_corrector.proofs.take_off.Statement.{statement}
-use Rattle.code_word_corrector.proofs.take_off.Tie as tie
+use Rattle.code_word_errors.proofs.take_off.Statement.{statement}
+use Rattle.code_word_errors.proofs.take_off.Tie as tie
 
 abbrev Inv-loop : tie.InvT-loop
 Inv-loop t word₀ e rest₀ both₀ i₀ word rest both i =

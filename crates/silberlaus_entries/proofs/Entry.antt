@@ -1,6 +1,5 @@
--- From the answer of the frame reader to that of the C face, and what reading an entry of a record answers, case by case.
--- Assumes nothing.
-use mathlib.Core.Path.{_≡_, refl, sym, ap, _∙_, subst}
+-- What reading an entry of a record answers, case by case. Assumes nothing.
+use mathlib.Core.Path.{_≡_, refl, sym, ap, _∙_}
 use mathlib.Core.Bool.{Bool, true, false, cond, and-false}
 use mathlib.Core.Option.{Option, none, some}
 use mathlib.Core.List.{List}
@@ -8,46 +7,21 @@ use Prim.Native.Nat.{ℕ, _≤_}
 use native.Mathlib.Omega.{arith}
 use lib.Dec.{ltb}
 use lib.ListN.{length}
-use lib.IntN.{ℤ}
 use borrow.Author.Tests.{le-leb, ltb-true, ltb-false, eq-eqb, ne-eqb}
 use Rattle.frame_settings.specs.Settings.{rateOf, linesAt, lineCount}
 use Rattle.frame_settings.proofs.Rates.{rate-unknown}
-use Rattle.frame_answers.specs.Answers.{Given, told, refusedWith}
-use Rattle.frame_arithmetic.specs.Answers.{Judged, refused, judgedRead, Answers}
+use Rattle.frame_arithmetic.specs.Answers.{refused, judgedRead}
 use Rattle.frame.specs.Frame.{judgedAt, judgedOf, frameOf}
-use Rattle.frame_arithmetic.specs.Sound.{Bounded}
-use Rattle.frame_arithmetic.proofs.ArithmeticSteps.{answers-refused}
 use Rattle.frame_settings.specs.declared.Setting.{Setting}
 use Rattle.frame_settings.specs.declared.Rate.{Rate}
 use Rattle.frame_settings.specs.declared.Rate.the-variants as rate
-use Rattle.frame_answers.specs.declared.Reading.{Reading}
 use Rattle.record_bytes.specs.Layout.{RecordEntry}
 use Rattle.record_bytes.specs.Reading.{readRecord}
 use Rattle.record.specs.Answers.{frameAt, entryOf, entryAnswer, framePart}
 use Rattle.record.specs.Answers as part
 use Rattle.record_bytes.proofs.Numbers.{Bytes}
 use Rattle.record.proofs.Answered.{frame-sized, frame-past, frame-missing}
-use Rattle.silberlaus_frames.specs.Frames.{frameGiven, judgedPlace, judgedIn, judgedEntry, missing}
-use Rattle.silberlaus_frames.specs.declared.SilberlausFrame.{SilberlausFrame}
-
--- ---- a return, from what was judged
-
--- the answer, both buffers and the bounds of a judgement
-abbrev Answered : SilberlausFrame → Judged → List ℤ → List ℤ → List ℕ → List ℕ → Type 0
-Answered o j lines lines′ bits bits′ =
-    Answers (frameGiven o) j lines lines′ bits bits′ × Bounded (frameGiven o) lines′
-
-pub refusal :
-    (j : Judged) (n : ℕ) (o : SilberlausFrame) (lines : List ℤ) (bits : List ℕ) → j ≡ refused n 0 → 1 ≤ n → (n ≡ 5 → ⊥)
-    → frameGiven o ≡ refusedWith n 0 → Answered o j lines lines bits bits
-refusal j n o lines bits e h k g = answers-refused (frameGiven o) j n 0 lines bits g e h (λ z. absurd (k z)) (omega arith)
-
-pub reading :
-    (j k : Judged) (r : Reading) (o : SilberlausFrame) (lines lines′ : List ℤ) (bits bits′ : List ℕ) → k ≡ j → frameGiven o ≡ told r
-    → Answers (told r) k lines lines′ bits bits′ → Bounded (told r) lines′ → Answered o j lines lines′ bits bits′
-reading j k r o lines lines′ bits bits′ e g a b =
-    let c = subst (λ (x : Given). Bounded x lines′) (sym g) b in
-    rw (← e) (record { given = g ∙ a .given; lines = a .lines; bits = a .bits }, c)
+use Rattle.silberlaus_entries.specs.Entries.{judgedPlace, judgedIn, judgedEntry, missing}
 
 -- ---- the rate and the two buffers
 

@@ -1,4 +1,4 @@
--- `code_word_corrector::errors` meets its contract. The loop has the last three sums and the transform of all so far. Assumes nothing.
+-- `code_word_locator::errors` meets its contract. The loop has the last three sums and the transform of all so far. Assumes nothing.
 use mathlib.Core.Path.{_≡_}
 use Prim.Native.Nat.{suc}
 use Prim.Native.Nat.{_≤_, _<_, _-_}
@@ -6,8 +6,8 @@ use native.Mathlib.Omega.{arith}
 use borrow.Author.Needs.{needs}
 use Rattle.code_word_laws.proofs.Packed.{six-elements}
 use Rattle.code_word_laws.proofs.Turns.{Held, held-first, held-next, held-last}
-use Rattle.code_word_corrector.proofs.errors.Statement.{statement}
-use Rattle.code_word_corrector.proofs.errors.Tie as tie
+use Rattle.code_word_locator.proofs.errors.Statement.{statement}
+use Rattle.code_word_locator.proofs.errors.Tie as tie
 
 abbrev Inv-loop : tie.InvT-loop
 Inv-loop t r1 r2 r3 s1 s2 u e₀ a₀ b₀ c₀ n₀ e a b c n = (n ≤ 12) × (a < 16) × (b < 16) × (c < 16) × Held r1 r2 r3 s1 s2 u (12 - n) a b c e

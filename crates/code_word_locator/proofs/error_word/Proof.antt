@@ -1,8 +1,8 @@
--- `code_word_corrector::error_word` meets its contract. Assumes nothing.
+-- `code_word_locator::error_word` meets its contract. Assumes nothing.
 use borrow.Author.Needs.{needs}
 use Rattle.code_word_laws.proofs.Correcting.{error-word-is}
-use Rattle.code_word_corrector.proofs.error_word.Statement.{statement}
-use Rattle.code_word_corrector.proofs.error_word.Tie as tie
+use Rattle.code_word_locator.proofs.error_word.Statement.{statement}
+use Rattle.code_word_locator.proofs.error_word.Tie as tie
 
 returns : tie.Need-returns
 returns c =

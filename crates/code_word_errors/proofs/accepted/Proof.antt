@@ -1,9 +1,9 @@
--- `code_word_corrector::accepted` meets its contract. Assumes nothing.
+-- `code_word_errors::accepted` meets its contract. Assumes nothing.
 use native.Mathlib.Omega.{arith}
 use borrow.Author.Needs.{needs}
 use Rattle.code_word_laws.proofs.Correcting.{accepts-not, accepts-clear}
-use Rattle.code_word_corrector.proofs.accepted.Statement.{statement}
-use Rattle.code_word_corrector.proofs.accepted.Tie as tie
+use Rattle.code_word_errors.proofs.accepted.Statement.{statement}
+use Rattle.code_word_errors.proofs.accepted.Tie as tie
 
 returns : tie.Need-returns
 returns c =

@@ -1,11 +1,11 @@
--- `code_word_corrector::correct_one` meets its contract. The error that is tested is the one that is taken off. Assumes nothing.
+-- `code_word_errors::correct_one` meets its contract. The error that is tested is the one that is taken off. Assumes nothing.
 use Prim.Native.Nat.{_<_}
 use native.Mathlib.Omega.{arith}
 use borrow.Author.Needs.{needs}
 use Rattle.gf16.proofs.Laws.{product-lt}
-use Rattle.code_word_corrector.proofs.Single.{taken-off-one, tried-none, tried-one}
-use Rattle.code_word_corrector.proofs.correct_one.Statement.{statement}
-use Rattle.code_word_corrector.proofs.correct_one.Tie as tie
+use Rattle.code_word_errors.proofs.Single.{taken-off-one, tried-none, tried-one}
+use Rattle.code_word_errors.proofs.correct_one.Statement.{statement}
+use Rattle.code_word_errors.proofs.correct_one.Tie as tie
 
 times-requires-2 : tie.Need-times-requires-2
 times-requires-2 c κs =

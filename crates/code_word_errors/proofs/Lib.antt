@@ -1,0 +1,2 @@
+-- What the code that takes errors off asks: one error.
+pub mod Single

@@ -1,0 +1,2 @@
+-- An entry's frame read in place.
+pub mod Entry

@@ -1,0 +1,2 @@
+-- What reading an entry of a record answers.
+pub mod Entries
