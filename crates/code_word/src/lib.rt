@@ -60,11 +60,12 @@ pub fn correct(word: &mut [u8], mode: u32) -> Correction
     }
     let most = (mode - 1) as u8;
     let t = code_word_syndromes::table();
-    let found = code_word_corrector::correct_word(&t, word, most);
-    if most < found.count {
+    let both = code_word_corrector::correct_word(&t, word, most);
+    let count = (both % 16) as u8;
+    if most < count {
         return Correction::None;
     }
-    Correction::Corrected(found.count, found.bits)
+    Correction::Corrected(count, (both / 16) as u8)
 }
 
 // Corrects as many words as there are counts, with the semi-octets in one buffer and the bits in another: the words stand one after the

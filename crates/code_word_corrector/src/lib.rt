@@ -4,7 +4,7 @@
 // semi-octets.
 ghost use mathlib.Core.Bool.{cond};
 ghost use mathlib.Core.Path.{_≡_};
-ghost use Prim.Native.Nat.{_+_, _≤_};
+ghost use Prim.Native.Nat.{_+_, _/_, _%_, _≤_};
 ghost use lib.Dec.{ltb};
 ghost use lib.ListN.{length};
 ghost use Rattle.code_word_laws.specs.Word.{SemiOctets};
@@ -18,43 +18,29 @@ use code_word_syndromes::both_counts;
 use code_word_syndromes::clear;
 use code_word_syndromes::syndromes;
 
-// The changes of a word: its changed semi-octets, and its changed bits.
-pub struct Changes {
-    pub count: u8,
-    pub bits: u8,
-}
-
-// Corrects one word with a lent table: its changes, or t + 1 semi-octets and no bits where no valid word is near, and then the word is as
-// it was lent.
-pub fn correct_word(t: &[u32; 512], word: &mut [u8], most: u8) -> Changes
+// Corrects one word with a lent table: its changed semi-octets and 16 times its changed bits, or t + 1 where no valid word is near, and
+// then the word is as it was lent.
+pub fn correct_word(t: &[u32; 512], word: &mut [u8], most: u8) -> u32
     requires { ⌜ WordFor (now t) (now word) most ⌝ }
-    ensures { λ r. ⌜ WordCorrected (most + 1) (now (word .entry)) (now (word .exit)) (r .count) (r .bits) ⌝ }
+    ensures { λ r. ⌜ WordCorrected (most + 1) (now (word .entry)) (now (word .exit)) (r % 16) (r / 16) ⌝ }
+    ensures { λ r. ⌜ r ≤ 975 ⌝ }
 {
     let s = syndromes(t, word);
     if clear(s, most) {
-        return Changes { count: 0, bits: 0 };
+        return 0;
     }
     let v = correct_one(t, word, s, most);
     if v != 0 {
-        return Changes {
-            count: 1,
-            bits: (both_counts(t, v) / 16) as u8,
-        };
+        return both_counts(t, v);
     }
     let e = error_word(t, s, most);
     let both = take_off(t, word, e);
     let count = (both % 16) as u8;
     if accepted(t, word, most, count) {
-        return Changes {
-            count,
-            bits: (both / 16) as u8,
-        };
+        return both;
     }
     take_off(t, word, e);
-    Changes {
-        count: most + 1,
-        bits: 0,
-    }
+    most as u32 + 1
 }
 
 // The length of word i: one more for the words that come first.
@@ -88,9 +74,9 @@ pub fn correct_words(
     let mut i = 0;
     while i < counts.len() {
         let end = at + dealt(long, over, i);
-        let found = correct_word(t, &mut words[at..end], most);
-        counts[i] = found.count;
-        bits[i] = found.bits;
+        let both = correct_word(t, &mut words[at..end], most);
+        counts[i] = (both % 16) as u8;
+        bits[i] = (both / 16) as u8;
         at = end;
         i += 1;
     }

@@ -34,6 +34,7 @@ use Rattle.code_word_laws.proofs.Changes.{
   error-changed,
   error-bits,
   both-bits,
+  both-one,
 }
 use Rattle.code_word_laws.proofs.Correcting.{near-by, found-is}
 
@@ -105,3 +106,7 @@ tried-one mode old new v l n m = record { below = l; one = λ z. m; kept = λ z.
 -- the bits of an error, from both its counts
 pub bits-of : (v b : ℕ) → v < 16 → b ≡ bothOf (v % 16) → b / 16 ≡ ones v
 bits-of v b l e = ap (λ (x : ℕ). x / 16) (e ∙ ap bothOf (mod-eq-of-lt l)) ∙ both-bits v
+
+-- one semi-octet
+pub count-of : (v b : ℕ) → v < 16 → v ≢ 0 → b ≡ bothOf (v % 16) → b % 16 ≡ 1
+count-of v b l n e = ap (λ (x : ℕ). x % 16) (e ∙ ap bothOf (mod-eq-of-lt l)) ∙ both-one v n

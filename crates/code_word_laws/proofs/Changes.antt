@@ -94,10 +94,14 @@ pub both-few : (v : ℕ) → bothOf v ≤ 65
 unfolding bothOf
 both-few v = let u = unequal-le (eqb v 0) in let m = ones-most v in omega arith
 
--- its bits again
+-- its bits and its one semi-octet again
 pub both-bits : (v : ℕ) → bothOf v / 16 ≡ ones v
 unfolding bothOf
 both-bits v = let u = unequal-le (eqb v 0) in omega arith
+
+pub both-one : (v : ℕ) → v ≢ 0 → bothOf v % 16 ≡ 1
+unfolding bothOf
+both-one v n = let u : unequal (eqb v 0) ≡ 1 = ap unequal (ne-eqb v 0 n) in omega arith
 
 changes-both : (xs ys : List ℕ) → changesBy bothChanged xs ys ≡ apart xs ys + 16 * bitsApart xs ys
 changes-both [] ys = refl

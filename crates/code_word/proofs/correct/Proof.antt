@@ -1,4 +1,5 @@
 -- `code_word::correct` meets its contract. Assumes nothing.
+use Prim.Native.Nat.{_/_, _%_}
 use native.Mathlib.Omega.{arith}
 use lib.ListN.{length}
 use borrow.Author.Needs.{needs}
@@ -47,21 +48,25 @@ correct-word-requires c κs =
 
 returns-3 : tie.Need-returns-3
 returns-3 c =
-    let m = c .before .before .before .before .correct-word in
-    let d = c .before .before .before .before .before .before .before .before in
-    is-none (begin d .args .mode) (begin d .args .word .now) (m .last .1 .0) (m .result .count) (m .result .bits)
-    (fit d) (semi d) (m .ensures) (c .if3 .taken)
+    let m = c .before .before .before .correct-word in
+    let d = c .before .before .before .before .before .before .before in
+    is-none (begin d .args .mode) (begin d .args .word .now) (m .last .1 .0) (m .result % 16) (m .result / 16)
+    (fit d) (semi d) (m .ensures .0) (c .if3 .taken)
+
+cast-t17 : tie.Need-cast-t17
+cast-t17 c = record { fits = omega (arith, c .before .before .before .correct-word .ensures .1) }
 
 returns-4 : tie.Need-returns-4
 returns-4 c =
-    let m = c .before .before .before .before .correct-word in
-    let d = c .before .before .before .before .before .before .before .before in
-    is-corrected (begin d .args .mode) (begin d .args .word .now) (m .last .1 .0) (m .result .count) (m .result .bits)
-    (fit d) (semi d) (m .ensures) (c .if3 .left)
+    let m = c .before .before .before .correct-word in
+    let d = c .before .before .before .before .before .before .before in
+    is-corrected (begin d .args .mode) (begin d .args .word .now) (m .last .1 .0) (m .result % 16) (m .result / 16)
+    (fit d) (semi d) (m .ensures .0) (c .if3 .left)
 
 pub correct-spec : {M : Type 1} → statement M
 correct-spec =
     tie.close
     (tie.spec
     (λ c κs. search needs) returns (λ c κs. search needs) (λ c. search needs) returns-2 sub-most cast-most
-    (λ c κs. search needs) correct-word-requires (λ c. search needs) returns-3 (λ c. search needs) returns-4)
+    (λ c κs. search needs) correct-word-requires (λ c. search needs) (λ c. search needs) returns-3 cast-t17 (λ c. search needs)
+    returns-4)

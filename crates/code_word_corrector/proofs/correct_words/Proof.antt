@@ -1,6 +1,6 @@
 -- `code_word_corrector::correct_words` meets its contract. The loop has the first words done and the rest as it was. Assumes nothing.
 use mathlib.Core.Path.{_≡_, refl, sym, _∙_}
-use Prim.Native.Nat.{_+_, _≤_, _<_, _-_}
+use Prim.Native.Nat.{_+_, _/_, _%_, _≤_, _<_, _-_}
 use native.Mathlib.Numerals.{add-one}
 use native.Mathlib.Omega.{arith}
 use lib.Seq.{length-take-le}
@@ -74,6 +74,9 @@ correct-word-requires c κs =
       semi-octets = rw e (batch-semi _ _ _ _ _ _ _ _ _ (h .loop .inv .1) (d .dealt .result) (long-of d) i-in (p .1 .1 .0));
     }
 
+cast-bits : tie.Need-cast-bits Inv-loop μ-loop
+cast-bits c = record { fits = omega (arith, c .before .before .correct-word .ensures .1) }
+
 slice-write-counts : tie.Need-slice-write-counts Inv-loop μ-loop
 slice-write-counts c =
     let h = c .before .before .before .before .before .before in
@@ -103,8 +106,8 @@ loop-again c =
     in (
       omega (arith, k .as-many),
       rw (e, add-one (h .loop .i))
-          (batch-next _ _ _ _ _ _ _ _ _ k l (long-of d) i-in (m .last .1 .0) (m .result .count) (m .result .bits) kept
-          (rw e at (m .ensures))),
+          (batch-next _ _ _ _ _ _ _ _ _ k l (long-of d) i-in (m .last .1 .0) (m .result % 16) (m .result / 16) kept
+          (rw e at (m .ensures .0))),
     )
 
 same-length : tie.Need-same-length Inv-loop μ-loop
@@ -126,5 +129,5 @@ correct-words-spec =
     tie.close
     (tie.spec
     Inv-loop μ-loop loop-holds dealt-requires add-end (λ c. search needs) (λ c. search needs) part-correct-word-end
-    correct-word-requires slice-write-counts slice-write-bits (λ c. search needs) loop-less loop-again same-length
+    correct-word-requires (λ c. search needs) slice-write-counts cast-bits slice-write-bits (λ c. search needs) loop-less loop-again same-length
     same-length-2 same-length-3 returns)
