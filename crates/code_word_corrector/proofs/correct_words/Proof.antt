@@ -129,5 +129,6 @@ correct-words-spec =
     tie.close
     (tie.spec
     Inv-loop μ-loop loop-holds dealt-requires add-end (λ c. search needs) (λ c. search needs) part-correct-word-end
-    correct-word-requires (λ c. search needs) slice-write-counts cast-bits slice-write-bits (λ c. search needs) loop-less loop-again same-length
+    correct-word-requires (λ c. search needs) slice-write-counts cast-bits slice-write-bits (λ c. search needs)
+    loop-less loop-again same-length
     same-length-2 same-length-3 returns)
