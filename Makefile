@@ -1,8 +1,8 @@
 # make test: all that is proved and tested. make day: the day's path on a sample. make bench: speed beside C, of
-# slots, frames and records; make bench-words: of code words alone. make faults, faults-slot, faults-frame: the tests notice
-# what is wrong. make lc3-frame: frames of another encoder, where it is installed; list-frame: such frames for the benchmark.
-# make test-rust: the Rust crate.
-.PHONY: test day bench bench-words build-tests faults faults-slot faults-frame lc3-frame list-frame test-rust clean
+# slots, frames and records; make bench-words: of code words alone. make faults, faults-slot, faults-frame, faults-record: the
+# tests notice what is wrong. make lc3-frame: frames of another encoder, where it is installed; list-frame: such frames for the
+# benchmark. make test-rust: the Rust crate.
+.PHONY: test day bench bench-words build-tests faults faults-slot faults-frame faults-record lc3-frame list-frame test-rust clean
 .DELETE_ON_ERROR:
 
 CC := gcc
@@ -54,6 +54,9 @@ faults-slot:
 faults-frame:
 	@$(FRAME)/faults $(CC) $(CFLAGS)
 
+faults-record:
+	@$(RECORD)/faults $(CC) $(CFLAGS)
+
 lc3-frame: $(FRAME_READER)
 	@$(FRAME)/lc3 read $(FRAME_READER) $(CC) $(CFLAGS)
 
@@ -94,8 +97,8 @@ $(FRAME_BUILT)/check: $(addprefix $(FRAME)/,check.c lend.c reference.c) $(CASES)
 	@mkdir -p $(FRAME_BUILT)
 	$(CC) $(CFLAGS) -o $@ $(filter %.c,$^) $(filter %.a,$^)
 
-$(RECORD_BUILT)/check: $(addprefix $(RECORD)/,check.c reference.c) $(CASES) $(FACE_ARCHIVE) $(RECORD)/reference.h $(CASES:.c=.h) \
-		include/silberlaus.h
+$(RECORD_BUILT)/check: $(addprefix $(RECORD)/,check.c lines.c moves.c made.c both.c kinds.c reference.c) $(CASES) $(FACE_ARCHIVE) \
+		$(wildcard $(RECORD)/*.h) $(CASES:.c=.h) include/silberlaus.h
 	@mkdir -p $(RECORD_BUILT)
 	$(CC) $(CFLAGS) -o $@ $(filter %.c,$^) $(filter %.a,$^)
 

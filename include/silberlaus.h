@@ -35,8 +35,8 @@ enum {
   SILBERLAUS_BEYOND_REPAIR = 3, /* some code word has no valid word within mode - 1 semi-octets */
   SILBERLAUS_FOREIGN = 4,       /* every word was corrected, and no frame and request make that slot */
   SILBERLAUS_BIT_ERROR = 5,     /* a bit error condition holds in the frame: see the causes */
-  SILBERLAUS_NO_ROOM = 6,       /* the record, or the buffer that it is in, has no room */
-  SILBERLAUS_NOT_A_RECORD = 7   /* the bytes are no record */
+  SILBERLAUS_NO_ROOM = 6,       /* the record, or the buffer that it is in or moved into, has no room */
+  SILBERLAUS_NOT_A_RECORD = 7   /* the bytes are no record of the form */
 };
 
 /* ---- causes: the field `cause` beside SILBERLAUS_BIT_ERROR; the first in reading order is given */
@@ -61,14 +61,19 @@ enum {
 #define SILBERLAUS_SLOT_FRAME_MAX 343 /* bytes of the frame in a slot: at least 20, at most this (slot 400, mode 2) */
 #define SILBERLAUS_WORDS_MAX 54      /* code words of a slot */
 #define SILBERLAUS_SEMI_OCTETS_MAX 162 /* changed semi-octets that can be repaired in a slot: 3 in each of 54 words */
+#define SILBERLAUS_BITS_MAX 648      /* changed bits in them: 4 in each */
+#define SILBERLAUS_BITS_UNKNOWN 65535 /* an entry's bits where nobody knows them, as in all of form 1 */
 #define SILBERLAUS_FRAME_MIN 20      /* bytes of a frame to read or to keep */
 #define SILBERLAUS_FRAME_MAX 400
 #define SILBERLAUS_LINES_MAX 400     /* lines of a frame at 48 kHz; see silberlaus_line_count */
 #define SILBERLAUS_SYMBOLS_MAX 2818  /* arithmetic symbols of a frame: 18 + 7 x 400 */
-#define SILBERLAUS_RECORD_MIN 4      /* bytes of a record with no entries */
-#define SILBERLAUS_RECORD_MAX 65536
-#define SILBERLAUS_ENTRY_OVERHEAD 4  /* bytes of an entry beside its frame */
-#define SILBERLAUS_ENTRIES_MAX 2730  /* entries of 20 bytes in a record of 65,536 */
+#define SILBERLAUS_RECORD_MIN_1 4    /* bytes of a record with no entries, of form 1 and of form 2 */
+#define SILBERLAUS_RECORD_MIN_2 5
+#define SILBERLAUS_RECORD_MAX 65536  /* bytes of a record of either form */
+#define SILBERLAUS_ENTRY_OVERHEAD_1 4 /* bytes of an entry beside its frame */
+#define SILBERLAUS_ENTRY_OVERHEAD_2 6
+#define SILBERLAUS_ENTRIES_MAX_1 2730 /* entries with frames of 20 bytes in a record of 65,536 */
+#define SILBERLAUS_ENTRIES_MAX_2 2520
 
 /* Bytes of stack that a call needs at most, its return address and all that it calls included, but not a `memcpy` and a
    `memset` of your own. Measured on the archive (tests/face), and rounded up. */
@@ -100,7 +105,7 @@ typedef struct {
 
 typedef struct {
   uint8_t number;
-  uint32_t used; /* the record's new length; on a refusal 0: keep the old one */
+  uint32_t used; /* the length of the record, longer by an entry or moved; on a refusal 0: keep the old one */
 } silberlaus_added;
 
 typedef struct {
@@ -112,6 +117,7 @@ typedef struct {
   uint8_t number;
   uint8_t request, count;
   uint16_t length; /* bytes of the entry's frame, which stands in the record from `start` on */
+  uint16_t bits;   /* SILBERLAUS_BITS_UNKNOWN, or 1 to 4 for each of the `count` semi-octets */
   uint32_t start;
 } silberlaus_entry;
 
@@ -148,37 +154,55 @@ size_t silberlaus_line_count(uint32_t khz);
 silberlaus_frame silberlaus_read_frame(uint32_t khz, const uint8_t *frame, size_t frame_len,
                                        int32_t *spectrum, size_t spectrum_len, uint8_t *residual, size_t residual_len);
 
-/* ---- the session record: entries of a frame, its request and its count, the oldest at place 0; at most 65,536 bytes
+/* ---- the session record: entries of a frame, its request, its count and its bits, the oldest at place 0; at most 65,536
+   bytes
 
-   A record is the first `used` bytes of a buffer. silberlaus_record_new makes one of 4 bytes, and each addition says the
-   new used length. The calls that read one take just those bytes. */
+   A record is the first `used` bytes of a buffer, in one of two forms; `form` is 1 or 2. After the entries stands their
+   number in 4 bytes, the highest first as in every number here, and in form 2 then the byte 2. An entry is its frame, the
+   request (1 byte), the count (1), in form 2 the bits (2), and the frame's length (2). Form 1 keeps no bits: they are read
+   as SILBERLAUS_BITS_UNKNOWN. No bytes are records of both forms. Entries are added in form 2; a record is moved from one
+   form to the other. silberlaus_record_new makes a record of 4 bytes in form 1 and of 5 in form 2; each addition and each
+   move says the used length. The calls that read a record take just those bytes. */
 
-/* Writes a record of no entries into the first 4 bytes; the rest of the buffer stays.
-   Refusals: SILBERLAUS_NO_ROOM the buffer has fewer than 4 bytes. */
-uint8_t silberlaus_record_new(uint8_t *buffer, size_t capacity);
+/* Writes a record of no entries into the first 4 bytes (form 1) or 5 (form 2); the rest of the buffer stays.
+   Refusals: SILBERLAUS_BAD_SETTING the form; SILBERLAUS_NO_ROOM the buffer has fewer bytes. */
+uint8_t silberlaus_record_new(uint32_t form, uint8_t *buffer, size_t capacity);
 
 /* The number of entries.
-   Refusals: SILBERLAUS_NOT_A_RECORD. */
-silberlaus_entries silberlaus_record_entries(const uint8_t *record, size_t used);
+   Refusals: SILBERLAUS_BAD_SETTING the form; SILBERLAUS_NOT_A_RECORD. */
+silberlaus_entries silberlaus_record_entries(uint32_t form, const uint8_t *record, size_t used);
 
 /* The entry at a place: its fields, and where its frame stands in the record.
-   Refusals: SILBERLAUS_NOT_A_RECORD; SILBERLAUS_BAD_SETTING the place is not below the number of entries. */
-silberlaus_entry silberlaus_record_entry(const uint8_t *record, size_t used, size_t place);
+   Refusals: SILBERLAUS_BAD_SETTING the form; SILBERLAUS_NOT_A_RECORD; SILBERLAUS_BAD_SETTING the place is not below the
+   number of entries. */
+silberlaus_entry silberlaus_record_entry(uint32_t form, const uint8_t *record, size_t used, size_t place);
 
-/* Adds an entry: 20 to 400 bytes of frame, request 0 to 3, count 0 to 162 (the semi_octets of silberlaus_unprotected).
+/* Adds an entry to a record of form 2: 20 to 400 bytes of frame, request 0 to 3, count 0 to 162 and bits (semi_octets and
+   bits of silberlaus_unprotected). The bits are count to 4 x count, or SILBERLAUS_BITS_UNKNOWN.
    `length` is the frame's length as the entry names it; frame_len is that of the lent buffer, and the two are equal.
-   Accepted, the record has used + length + 4 bytes; what stood before its old end number and past its new end stays.
-   Refusals: SILBERLAUS_BAD_SETTING used above capacity or above 65,536, request, count or length out of range, or
-   frame_len not length; SILBERLAUS_NOT_A_RECORD the first `used` bytes; SILBERLAUS_NO_ROOM used + length + 4 exceeds
-   capacity or 65,536. */
+   Accepted, the record has used + length + 6 bytes; what stood before its old end (the number and the byte 2) and past its
+   new end stays.
+   Refusals: SILBERLAUS_BAD_SETTING used above capacity or above 65,536, request, count, bits or length out of range, or
+   frame_len not length; SILBERLAUS_NOT_A_RECORD the first `used` bytes are no record of form 2, be they one of form 1;
+   SILBERLAUS_NO_ROOM used + length + 6 exceeds capacity or 65,536. */
 silberlaus_added silberlaus_record_add(uint8_t *buffer, size_t capacity, size_t used,
                                        const uint8_t *frame, size_t frame_len,
-                                       uint32_t request, uint32_t count, uint32_t length);
+                                       uint32_t request, uint32_t count, uint32_t bits, uint32_t length);
+
+/* Writes a record of form 1 into `out` as a record of form 2: the same entries, each with SILBERLAUS_BITS_UNKNOWN. It has
+   used + 2 x entries + 1 bytes; `record` is only read, and what stands in `out` past them stays.
+   Refusals: SILBERLAUS_NOT_A_RECORD; SILBERLAUS_NO_ROOM the moved record exceeds capacity or 65,536. */
+silberlaus_added silberlaus_record_to_form_2(const uint8_t *record, size_t used, uint8_t *out, size_t capacity);
+
+/* Writes a record of form 2 into `out` as a record of form 1: the same entries, their bits dropped. It has
+   used - 2 x entries - 1 bytes; `record` is only read, and what stands in `out` past them stays.
+   Refusals: SILBERLAUS_NOT_A_RECORD; SILBERLAUS_NO_ROOM the moved record exceeds capacity. */
+silberlaus_added silberlaus_record_to_form_1(const uint8_t *record, size_t used, uint8_t *out, size_t capacity);
 
 /* Reads the frame of the entry at a place, where it stands: nothing is copied. Else as silberlaus_read_frame.
-   Refusals: SILBERLAUS_BAD_SETTING the rate; SILBERLAUS_BAD_LENGTH `spectrum` or `residual`; SILBERLAUS_NOT_A_RECORD;
-   SILBERLAUS_BAD_SETTING the place; SILBERLAUS_BIT_ERROR with its cause. */
-silberlaus_frame silberlaus_read_entry(const uint8_t *record, size_t used, size_t place, uint32_t khz,
+   Refusals: SILBERLAUS_BAD_SETTING the form or the rate; SILBERLAUS_BAD_LENGTH `spectrum` or `residual`;
+   SILBERLAUS_NOT_A_RECORD; SILBERLAUS_BAD_SETTING the place; SILBERLAUS_BIT_ERROR with its cause. */
+silberlaus_frame silberlaus_read_entry(uint32_t form, const uint8_t *record, size_t used, size_t place, uint32_t khz,
                                        int32_t *spectrum, size_t spectrum_len, uint8_t *residual, size_t residual_len);
 
 #ifdef __cplusplus

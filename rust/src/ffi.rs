@@ -59,6 +59,7 @@ pub struct Entry {
     pub request: u8,
     pub count: u8,
     pub length: u16,
+    pub bits: u16,
     pub start: u32,
 }
 
@@ -92,9 +93,9 @@ unsafe extern "C" {
         residual: *mut u8,
         residual_len: usize,
     ) -> Frame;
-    fn silberlaus_record_new(buffer: *mut u8, capacity: usize) -> u8;
-    fn silberlaus_record_entries(record: *const u8, used: usize) -> Entries;
-    fn silberlaus_record_entry(record: *const u8, used: usize, place: usize) -> Entry;
+    fn silberlaus_record_new(form: u32, buffer: *mut u8, capacity: usize) -> u8;
+    fn silberlaus_record_entries(form: u32, record: *const u8, used: usize) -> Entries;
+    fn silberlaus_record_entry(form: u32, record: *const u8, used: usize, place: usize) -> Entry;
     fn silberlaus_record_add(
         buffer: *mut u8,
         capacity: usize,
@@ -103,9 +104,13 @@ unsafe extern "C" {
         frame_len: usize,
         request: u32,
         count: u32,
+        bits: u32,
         length: u32,
     ) -> Added;
+    fn silberlaus_record_to_form_2(record: *const u8, used: usize, out: *mut u8, capacity: usize) -> Added;
+    fn silberlaus_record_to_form_1(record: *const u8, used: usize, out: *mut u8, capacity: usize) -> Added;
     fn silberlaus_read_entry(
+        form: u32,
         record: *const u8,
         used: usize,
         place: usize,
@@ -134,32 +139,49 @@ pub fn read_frame(khz: u32, frame: &[u8], spectrum: &mut [i32], residual: &mut [
     unsafe { silberlaus_read_frame(khz, at, frame.len(), to, lines, rest, bits) }
 }
 
-pub fn record_new(buffer: &mut [u8]) -> u8 {
+pub fn record_new(form: u32, buffer: &mut [u8]) -> u8 {
     // SAFETY: buffer is good for writing for its length.
-    unsafe { silberlaus_record_new(buffer.as_mut_ptr(), buffer.len()) }
+    unsafe { silberlaus_record_new(form, buffer.as_mut_ptr(), buffer.len()) }
 }
 
-pub fn record_entries(record: &[u8]) -> Entries {
+pub fn record_entries(form: u32, record: &[u8]) -> Entries {
     // SAFETY: record is good for reading for its length.
-    unsafe { silberlaus_record_entries(record.as_ptr(), record.len()) }
+    unsafe { silberlaus_record_entries(form, record.as_ptr(), record.len()) }
 }
 
-pub fn record_entry(record: &[u8], place: usize) -> Entry {
+pub fn record_entry(form: u32, record: &[u8], place: usize) -> Entry {
     // SAFETY: record is good for reading for its length.
-    unsafe { silberlaus_record_entry(record.as_ptr(), record.len(), place) }
+    unsafe { silberlaus_record_entry(form, record.as_ptr(), record.len(), place) }
 }
 
-pub fn record_add(buffer: &mut [u8], used: usize, frame: &[u8], request: u32, count: u32) -> Added {
+pub fn record_add(buffer: &mut [u8], used: usize, frame: &[u8], request: u32, count: u32, bits: u32) -> Added {
     // a frame too long for 32 bits is refused as any other that is too long
     let length = u32::try_from(frame.len()).unwrap_or(u32::MAX);
     let (room, bytes) = (buffer.len(), buffer.as_mut_ptr());
     // SAFETY: buffer is good for writing, frame for reading, each for its length, and an exclusive slice overlaps no other.
-    unsafe { silberlaus_record_add(bytes, room, used, frame.as_ptr(), frame.len(), request, count, length) }
+    unsafe { silberlaus_record_add(bytes, room, used, frame.as_ptr(), frame.len(), request, count, bits, length) }
 }
 
-pub fn read_entry(record: &[u8], place: usize, khz: u32, spectrum: &mut [i32], residual: &mut [u8]) -> Frame {
+pub fn record_to_form_2(record: &[u8], out: &mut [u8]) -> Added {
+    // SAFETY: record is good for reading, out for writing, each for its length, and an exclusive slice overlaps no other.
+    unsafe { silberlaus_record_to_form_2(record.as_ptr(), record.len(), out.as_mut_ptr(), out.len()) }
+}
+
+pub fn record_to_form_1(record: &[u8], out: &mut [u8]) -> Added {
+    // SAFETY: record is good for reading, out for writing, each for its length, and an exclusive slice overlaps no other.
+    unsafe { silberlaus_record_to_form_1(record.as_ptr(), record.len(), out.as_mut_ptr(), out.len()) }
+}
+
+pub fn read_entry(
+    form: u32,
+    record: &[u8],
+    place: usize,
+    khz: u32,
+    spectrum: &mut [i32],
+    residual: &mut [u8],
+) -> Frame {
     let (lines, bits) = (spectrum.len(), residual.len());
     let (at, to, rest) = (record.as_ptr(), spectrum.as_mut_ptr(), residual.as_mut_ptr());
     // SAFETY: record is good for reading, the others for writing, each for its length; exclusive slices overlap no other.
-    unsafe { silberlaus_read_entry(at, record.len(), place, khz, to, lines, rest, bits) }
+    unsafe { silberlaus_read_entry(form, at, record.len(), place, khz, to, lines, rest, bits) }
 }

@@ -24,9 +24,10 @@
 //! assert_eq!((heard, got.request, got.semi_octets, got.bits), (frame, 1, 1, 1));
 //!
 //! let mut night = [0; 1024];
-//! let mut used = record::new(&mut night)?;
-//! used = record::add(&mut night, used, &heard, got.request.into(), got.semi_octets.into())?;
-//! assert_eq!(record::frame(&night[..used], 0)?, frame);
+//! let mut used = record::new(2, &mut night)?;
+//! let bits = Some(got.bits.into());
+//! used = record::add(&mut night, used, &heard, got.request.into(), got.semi_octets.into(), bits)?;
+//! assert_eq!(record::frame(2, &night[..used], 0)?, frame);
 //! # Ok::<(), silberlaus::Refusal>(())
 //! ```
 #![cfg_attr(not(test), no_std)]

@@ -26,9 +26,9 @@ pub enum Refusal {
     Foreign,
     /// 5: a bit error condition holds in the frame.
     BitError(Cause),
-    /// 6: the record, or the buffer that it is in, has no room.
+    /// 6: the record, or the buffer that it is in or moved into, has no room.
     NoRoom,
-    /// 7: the bytes are no record.
+    /// 7: the bytes are no record of the form.
     NotARecord,
 }
 

@@ -82,56 +82,173 @@ fn unprotect_refuses_1_then_2_then_3_then_4() {
     assert_eq!(refused_unprotect(MODE, &foreign_slot(), 53), Refusal::Foreign);
 }
 
-/// A record of two entries in the first 53 of 200 bytes.
-fn two_entries() -> ([u8; 200], usize) {
+/// Forms that are none; some are 1 or 2 once they are narrowed.
+const NO_FORMS: [u32; 7] = [0, 3, 257, 258, 65537, 65538, u32::MAX];
+
+/// A record of two entries in the first bytes of 200, in either form.
+fn two_entries(form: u32) -> ([u8; 200], usize) {
     let mut buffer = [0x77; 200];
-    let mut used = record::new(&mut buffer).unwrap();
-    used = record::add(&mut buffer, used, &[1; 20], 1, 162).unwrap();
-    used = record::add(&mut buffer, used, &[2; 21], 3, 0).unwrap();
-    (buffer, used)
+    let mut used = record::new(2, &mut buffer).unwrap();
+    used = record::add(&mut buffer, used, &[1; 20], 1, 162, Some(648)).unwrap();
+    used = record::add(&mut buffer, used, &[2; 21], 3, 0, None).unwrap();
+    if form == 2 {
+        return (buffer, used);
+    }
+    let mut moved = [0x77; 200];
+    let used = record::to_form_1(&buffer[..used], &mut moved).unwrap();
+    (moved, used)
 }
 
 #[test]
-fn readers_refuse_7_then_1() {
-    let (buffer, used) = two_entries();
-    assert_eq!(record::entries(&buffer[..used]), Ok(2));
-    assert_eq!(record::frame(&buffer[..used], 1), Ok(&[2; 21][..]));
-    for place in [2, 3, usize::MAX] {
-        assert_eq!(record::entry(&buffer[..used], place), Err(Refusal::BadSetting));
-        assert_eq!(record::frame(&buffer[..used], place), Err(Refusal::BadSetting));
+fn new_refuses_1_then_6() {
+    for capacity in 0..8 {
+        for form in NO_FORMS {
+            let mut buffer = vec![0xa5; capacity];
+            assert_eq!(record::new(form, &mut buffer), Err(Refusal::BadSetting));
+            assert!(buffer.iter().all(|&byte| byte == 0xa5));
+        }
     }
-    for cut in 0..used {
-        assert_eq!(record::entries(&buffer[..cut]), Err(Refusal::NotARecord));
-        assert_eq!(record::entry(&buffer[..cut], 5), Err(Refusal::NotARecord));
-        assert_eq!(record::frame(&buffer[..cut], 0), Err(Refusal::NotARecord));
+    assert_eq!(record::new(1, &mut []), Err(Refusal::NoRoom));
+    assert_eq!(record::new(1, &mut [0; 3]), Err(Refusal::NoRoom));
+    assert_eq!(record::new(2, &mut [0; 4]), Err(Refusal::NoRoom));
+}
+
+#[test]
+fn readers_refuse_1_then_7_then_1() {
+    for form in [1, 2] {
+        let (buffer, used) = two_entries(form);
+        let bits = if form == 1 { None } else { Some(648) };
+        assert_eq!(record::entries(form, &buffer[..used]), Ok(2));
+        assert_eq!(record::frame(form, &buffer[..used], 1), Ok(&[2; 21][..]));
+        assert_eq!([0, 1].map(|place| record::entry(form, &buffer[..used], place).unwrap().bits), [bits, None]);
+        for place in [2, 3, usize::MAX] {
+            assert_eq!(record::entry(form, &buffer[..used], place), Err(Refusal::BadSetting));
+            assert_eq!(record::frame(form, &buffer[..used], place), Err(Refusal::BadSetting));
+        }
+        for cut in 0..used {
+            assert_eq!(record::entries(form, &buffer[..cut]), Err(Refusal::NotARecord));
+            assert_eq!(record::entry(form, &buffer[..cut], 5), Err(Refusal::NotARecord));
+            assert_eq!(record::frame(form, &buffer[..cut], 0), Err(Refusal::NotARecord));
+        }
+        assert_eq!(record::entries(3 - form, &buffer[..used]), Err(Refusal::NotARecord));
+        for no_form in NO_FORMS {
+            for record in [&buffer[..used], &buffer[..used - 1], &[]] {
+                assert_eq!(record::entries(no_form, record), Err(Refusal::BadSetting));
+                assert_eq!(record::entry(no_form, record, 5), Err(Refusal::BadSetting));
+                assert_eq!(record::frame(no_form, record, 0), Err(Refusal::BadSetting));
+            }
+        }
     }
 }
 
-fn refused_add(capacity: usize, used: usize, frame_len: usize, request: u32, count: u32) -> Refusal {
-    let (mut buffer, _) = two_entries();
+type Settings = (usize, u32, u32, Option<u32>);
+
+fn refused_add(form: u32, capacity: usize, used: usize, (frame_len, request, count, bits): Settings) -> Refusal {
+    let (mut buffer, _) = two_entries(form);
     let before = buffer;
-    let refusal = record::add(&mut buffer[..capacity], used, &vec![9; frame_len], request, count).unwrap_err();
+    let refusal = record::add(&mut buffer[..capacity], used, &vec![9; frame_len], request, count, bits).unwrap_err();
     assert_eq!(buffer, before);
     refusal
 }
 
 #[test]
 fn add_refuses_1_then_7_then_6() {
-    let (_, used) = two_entries();
+    let (_, used) = two_entries(2);
+    const RIGHT: Settings = (20, 0, 0, Some(0));
     for (capacity, used) in [(200, used), (200, used - 1), (used, used)] {
-        for (frame_len, request, count) in
-            [(19, 0, 0), (401, 0, 0), (20, 4, 0), (20, 256, 0), (20, 0, 163), (20, 0, 256)]
-        {
-            assert_eq!(refused_add(capacity, used, frame_len, request, count), Refusal::BadSetting);
+        for settings in [
+            (19, 0, 0, None),
+            (401, 0, 0, None),
+            (20, 4, 0, None),
+            (20, 256, 0, None),
+            (20, 0, 163, None),
+            (20, 0, 256, None),
+            (20, 0, 0, Some(1)),
+            (20, 0, 5, Some(4)),
+            (20, 0, 5, Some(21)),
+            (20, 0, 162, Some(649)),
+            (20, 0, 162, Some(65534)),
+            (20, 0, 5, Some(65535)),
+            (20, 0, 5, Some(65536 + 5)),
+            (20, 0, 5, Some(65536 + 65535)),
+            (20, 0, 5, Some(u32::MAX)),
+        ] {
+            assert_eq!(refused_add(2, capacity, used, settings), Refusal::BadSetting, "{settings:?}");
         }
     }
-    assert_eq!(refused_add(60, 61, 20, 0, 0), Refusal::BadSetting);
-    assert_eq!(refused_add(60, usize::MAX, 20, 0, 0), Refusal::BadSetting);
-    assert_eq!(refused_add(200, used - 1, 20, 0, 0), Refusal::NotARecord);
-    assert_eq!(refused_add(used - 1, used - 1, 20, 0, 0), Refusal::NotARecord);
-    assert_eq!(refused_add(0, 0, 20, 0, 0), Refusal::NotARecord);
-    assert_eq!(refused_add(used + 23, used, 20, 0, 0), Refusal::NoRoom);
-    assert_eq!(record::new(&mut []), Err(Refusal::NoRoom));
+    assert_eq!(refused_add(2, 60, 61, RIGHT), Refusal::BadSetting);
+    assert_eq!(refused_add(2, 60, usize::MAX, RIGHT), Refusal::BadSetting);
+    assert_eq!(refused_add(2, 200, used - 1, RIGHT), Refusal::NotARecord);
+    assert_eq!(refused_add(2, used - 1, used - 1, RIGHT), Refusal::NotARecord);
+    assert_eq!(refused_add(2, 0, 0, RIGHT), Refusal::NotARecord);
+    assert_eq!(refused_add(2, used + 25, used, RIGHT), Refusal::NoRoom);
+    let (_, used) = two_entries(1);
+    assert_eq!(refused_add(1, 200, used, RIGHT), Refusal::NotARecord);
+    assert_eq!(refused_add(1, used, used, RIGHT), Refusal::NotARecord);
+}
+
+type Move = fn(&[u8], &mut [u8]) -> Result<usize, Refusal>;
+
+fn refused_move(to_form: Move, record: &[u8], capacity: usize) -> Refusal {
+    let mut out = vec![0xa5; capacity];
+    let refusal = to_form(record, &mut out).unwrap_err();
+    assert!(out.iter().all(|&byte| byte == 0xa5));
+    refusal
+}
+
+#[test]
+fn moves_refuse_7_then_6() {
+    let moves: [(u32, Move, Move); 2] =
+        [(1, record::to_form_2, record::to_form_1), (2, record::to_form_1, record::to_form_2)];
+    for (form, there, back) in moves {
+        let (buffer, used) = two_entries(form);
+        let length = if form == 1 { used + 5 } else { used - 5 };
+        let mut out = vec![0xa5; length + 3];
+        assert_eq!(there(&buffer[..used], &mut out), Ok(length));
+        assert_eq!(out[length..], [0xa5; 3]);
+        assert_eq!(refused_move(there, &buffer[..used], length - 1), Refusal::NoRoom);
+        assert_eq!(refused_move(there, &buffer[..used], 0), Refusal::NoRoom);
+        assert_eq!(refused_move(back, &buffer[..used], 200), Refusal::NotARecord);
+        for cut in 0..used {
+            assert_eq!(refused_move(there, &buffer[..cut], 0), Refusal::NotARecord);
+        }
+    }
+}
+
+/// A form 1 record of 161 frames of 400 bytes and one of `last`, which grows by 325 bytes when it is moved.
+fn growing_record(last: u8) -> Vec<u8> {
+    let mut record = [&[0x11; 400][..], &[0, 0, 1, 0x90]].concat().repeat(161);
+    record.extend(vec![0x11; last.into()]);
+    record.extend([0, 0, 0, last, 0, 0, 0, 162]);
+    record
+}
+
+#[test]
+fn a_moved_record_has_at_most_65_536_bytes() {
+    let mut out = vec![0; 70_000];
+    assert_eq!(record::to_form_2(&growing_record(159), &mut out), Ok(record::MAX));
+    assert_eq!(refused_move(record::to_form_2, &growing_record(160), 70_000), Refusal::NoRoom);
+}
+
+#[test]
+fn sizes_are_those_of_full_records() {
+    let mut buffer = vec![0x77; 70_000];
+    let mut used = record::new(2, &mut buffer).unwrap();
+    let mut entries = 0;
+    while let Ok(longer) = record::add(&mut buffer, used, &[3; 20], 0, 162, Some(record::BITS_MAX.into())) {
+        assert_eq!(longer, used + 20 + record::ENTRY_OVERHEAD_2);
+        (used, entries) = (longer, entries + 1);
+    }
+    assert_eq!((entries, record::ENTRIES_MAX_2), (2520, 2520));
+    assert_eq!(used, record::MIN_2 + 2520 * (20 + record::ENTRY_OVERHEAD_2));
+    let mut moved = vec![0; 70_000];
+    assert_eq!(
+        record::to_form_1(&buffer[..used], &mut moved),
+        Ok(record::MIN_1 + 2520 * (20 + record::ENTRY_OVERHEAD_1))
+    );
+    let full = [&[[3; 20].as_slice(), &[0, 162, 0, 20]].concat().repeat(2730)[..], &2730u32.to_be_bytes()].concat();
+    assert_eq!(record::entries(1, &full), Ok(record::ENTRIES_MAX_1));
+    assert!(full.len() + 24 > record::MAX);
 }
 
 /// A frame of 48 kHz with cause 1.
@@ -172,13 +289,24 @@ fn read_frame_refuses_1_then_2_then_5() {
 
 #[test]
 fn read_entry_refuses_1_then_2_then_7_then_1_then_5() {
-    let mut buffer = [0; 64];
-    let used = record::new(&mut buffer).unwrap();
-    let used = record::add(&mut buffer, used, &NO_FRAME, 0, 0).unwrap();
-    let (whole, cut) = (&buffer[..used], &buffer[..used - 1]);
-    assert_eq!(refused(400, 399, |s, r| record::read(cut, 1, 44, s, r)), Refusal::BadSetting);
-    assert_eq!(refused(400, 399, |s, r| record::read(cut, 1, 48, s, r)), Refusal::BadLength);
-    assert_eq!(refused(400, 400, |s, r| record::read(cut, 1, 48, s, r)), Refusal::NotARecord);
-    assert_eq!(refused(400, 400, |s, r| record::read(whole, 1, 48, s, r)), Refusal::BadSetting);
-    assert_eq!(refused(400, 400, |s, r| record::read(whole, 0, 48, s, r)), Refusal::BitError(Cause::Bandwidth));
+    let (mut buffer, mut moved) = ([0; 64], [0; 64]);
+    let used = record::new(2, &mut buffer).unwrap();
+    let used = record::add(&mut buffer, used, &NO_FRAME, 0, 0, Some(0)).unwrap();
+    let used_1 = record::to_form_1(&buffer[..used], &mut moved).unwrap();
+    for (form, whole) in [(1, &moved[..used_1]), (2, &buffer[..used])] {
+        let cut = &whole[..whole.len() - 1];
+        for no_form in NO_FORMS {
+            assert_eq!(refused(400, 399, |s, r| record::read(no_form, cut, 1, 44, s, r)), Refusal::BadSetting);
+            assert_eq!(refused(400, 399, |s, r| record::read(no_form, whole, 0, 48, s, r)), Refusal::BadSetting);
+        }
+        assert_eq!(refused(400, 399, |s, r| record::read(form, cut, 1, 44, s, r)), Refusal::BadSetting);
+        assert_eq!(refused(400, 399, |s, r| record::read(form, cut, 1, 48, s, r)), Refusal::BadLength);
+        assert_eq!(refused(400, 400, |s, r| record::read(form, cut, 1, 48, s, r)), Refusal::NotARecord);
+        assert_eq!(refused(400, 400, |s, r| record::read(3 - form, whole, 0, 48, s, r)), Refusal::NotARecord);
+        assert_eq!(refused(400, 400, |s, r| record::read(form, whole, 1, 48, s, r)), Refusal::BadSetting);
+        assert_eq!(
+            refused(400, 400, |s, r| record::read(form, whole, 0, 48, s, r)),
+            Refusal::BitError(Cause::Bandwidth)
+        );
+    }
 }

@@ -1,4 +1,5 @@
-//! Every line of the four lists (README.md in tests/slot and tests/frame of the repository) through the safe functions.
+//! Every line of the five lists (README.md in tests/slot, tests/frame and tests/record of the repository) through the safe
+//! functions.
 
 use std::fs;
 use std::path::Path;
@@ -142,13 +143,122 @@ fn frames_list() {
     assert_eq!(lines.len(), 388);
 }
 
-/// The frame as an entry of a record reads as the frame alone does, where it can be one.
+/// The frame as an entry of a record reads as the frame alone does, where it can be one, in both forms.
 fn reads_as_entry(khz: u32, frame: &[u8], spectrum: &[i32], residual: &[u8]) {
-    let mut buffer = vec![0; 1024];
-    let used = record::new(&mut buffer).unwrap();
-    let Ok(used) = record::add(&mut buffer, used, frame, 0, 0) else { return };
-    let (mut lines, mut bits) = (vec![-7; spectrum.len()], vec![0xa5; residual.len()]);
-    let alone = read_frame(khz, frame, &mut lines.clone(), &mut bits.clone());
-    assert_eq!(record::read(&buffer[..used], 0, khz, &mut lines, &mut bits), alone);
-    assert_eq!((&lines[..], &bits[..]), (spectrum, residual));
+    let (mut buffer, mut moved) = (vec![0; 1024], vec![0; 1024]);
+    let used = record::new(2, &mut buffer).unwrap();
+    let Ok(used) = record::add(&mut buffer, used, frame, 0, 0, Some(0)) else { return };
+    let used_1 = record::to_form_1(&buffer[..used], &mut moved).unwrap();
+    for (form, whole) in [(1, &moved[..used_1]), (2, &buffer[..used])] {
+        let (mut lines, mut bits) = (vec![-7; spectrum.len()], vec![0xa5; residual.len()]);
+        let alone = read_frame(khz, frame, &mut lines.clone(), &mut bits.clone());
+        assert_eq!(record::read(form, whole, 0, khz, &mut lines, &mut bits), alone);
+        assert_eq!((&lines[..], &bits[..]), (spectrum, residual));
+    }
+}
+
+/// The number of an answer, and what it holds where it is 0.
+fn number_and<T>(answer: Result<T, Refusal>) -> (u8, Option<T>) {
+    match answer {
+        Ok(value) => (0, Some(value)),
+        Err(refusal) => (refusal.number(), None),
+    }
+}
+
+fn number<T: std::str::FromStr<Err: std::fmt::Debug>>(field: &str) -> T {
+    field.parse().unwrap()
+}
+
+/// A buffer as it stands after a call that was lent `lent`; `=` is as lent.
+fn after(field: &str, lent: &str) -> Vec<u8> {
+    bytes(if field == "=" { lent } else { field })
+}
+
+/// Bits as the list has them, where 65,535 is unknown.
+fn known(bits: u32) -> Option<u32> {
+    (bits != 65535).then_some(bits)
+}
+
+fn new_line([form, buffer, want, left]: [&str; 4]) {
+    let mut lent = bytes(buffer);
+    let (got, used) = number_and(record::new(number(form), &mut lent));
+    assert_eq!((got, lent), (number(want), after(left, buffer)));
+    assert_eq!(used, (got == 0).then_some(3 + number::<usize>(form)));
+}
+
+fn entries_line([form, record, want, entries]: [&str; 4]) {
+    let (got, count) = number_and(record::entries(number(form), &bytes(record)));
+    assert_eq!((got, count.unwrap_or(0)), (number(want), number(entries)));
+}
+
+fn entry_line([form, record, place, want, start, length, request, count, bits]: [&str; 9]) {
+    let (form, record, place) = (number(form), bytes(record), number(place));
+    let (got, entry) = number_and(record::entry(form, &record, place));
+    assert_eq!(got, number::<u8>(want));
+    let Some(entry) = entry else { return };
+    assert_eq!((entry.start, entry.length), (number(start), number(length)));
+    assert_eq!((entry.request, entry.count), (number(request), number(count)));
+    assert_eq!(entry.bits.map(u32::from), known(number(bits)));
+    assert_eq!(record::frame(form, &record, place), Ok(&record[entry.range()]));
+}
+
+/// Whether a call can be made of the line: in C a frame may have another length than the one named.
+fn add_line([buffer, used, frame, request, count, bits, length, want, longer, left]: [&str; 10]) -> bool {
+    let (mut lent, frame) = (bytes(buffer), bytes(frame));
+    if frame.len() != number::<usize>(length) {
+        assert_eq!(want, "1");
+        return false;
+    }
+    let bits = known(number(bits));
+    let answer = record::add(&mut lent, number(used), &frame, number(request), number(count), bits);
+    let (got, used) = number_and(answer);
+    assert_eq!((got, used.unwrap_or(0), lent), (number(want), number(longer), after(left, buffer)));
+    true
+}
+
+type Move = fn(&[u8], &mut [u8]) -> Result<usize, Refusal>;
+
+fn move_line(to_form: Move, [record, out, want, used, left]: [&str; 5]) {
+    let mut lent = bytes(out);
+    let (got, length) = number_and(to_form(&bytes(record), &mut lent));
+    assert_eq!((got, length.unwrap_or(0), lent), (number(want), number(used), after(left, out)));
+}
+
+/// The program's listing, made of what the crate reads: of form 2 if the bytes are that, else of form 1.
+fn list_line([record, text]: [&str; 2]) {
+    let record = bytes(record);
+    let form = if record::entries(2, &record).is_ok() { 2 } else { 1 };
+    let listing = match record::entries(form, &record) {
+        Err(_) => String::from("damaged\n"),
+        Ok(entries) => (0..entries as usize).fold(format!("records {entries}\n"), |lines, place| {
+            let entry = record::entry(form, &record, place).unwrap();
+            lines + &format!("{place} {} {} {}\n", entry.length, entry.request, entry.count)
+        }),
+    };
+    assert_eq!(listing.as_bytes(), bytes(text));
+}
+
+fn fields<const N: usize>(line: &[String]) -> [&str; N] {
+    let fields: Vec<&str> = line[1..].iter().map(String::as_str).collect();
+    fields.try_into().expect("as many fields as the call has")
+}
+
+#[test]
+fn form2_list() {
+    const CALLS: [&str; 7] = ["new", "entries", "entry", "add", "to2", "to1", "list"];
+    let (lines, mut counts, mut left_out) = (list("record/form2.txt"), [0; 7], 0);
+    for line in &lines {
+        let call = CALLS.iter().position(|&call| call == line[0]).expect("a call of the record");
+        counts[call] += 1;
+        match call {
+            0 => new_line(fields(line)),
+            1 => entries_line(fields(line)),
+            2 => entry_line(fields(line)),
+            3 => left_out += usize::from(!add_line(fields(line))),
+            4 => move_line(record::to_form_2, fields(line)),
+            5 => move_line(record::to_form_1, fields(line)),
+            _ => list_line(fields(line)),
+        }
+    }
+    assert_eq!((counts, left_out), ([11, 44, 14, 23, 12, 13, 13], 1));
 }

@@ -11,7 +11,6 @@ import sys
 
 ROOT = pathlib.Path(__file__).resolve().parents[2]
 SAMPLE = (ROOT / "crates/day/stdin").read_bytes()
-ROOM = 10000
 failed = []
 
 
@@ -48,9 +47,10 @@ def changed_bits(place, changes):
     return sum(bin((place + i) % 15 + 1).count("1") for i in range(changes))
 
 
-def counted():
-    """What the report must say, by the words of its lines, and the record's entries; refusals 3 and 4 are one sum."""
-    sent, ways, entries, used = {2: 0, 3: 0, 4: 0}, [0] * 4, [], 4
+def counted(room):
+    """What the report must say, by the words of its lines, and the entries of the record, which is of form 2 and has so many bytes;
+    refusals 3 and 4 are one sum."""
+    sent, ways, entries, used = {2: 0, 3: 0, 4: 0}, [0] * 4, [], 5
     total = dict(left=0, changed=0, bits=0, lines=0, symbols=0, refused=0)
     for place, (length, last, symbols) in enumerate(frames()):
         slot = slot_for(length)
@@ -69,9 +69,9 @@ def counted():
         total["bits"] += changed_bits(place, changes)
         total["lines"] += last
         total["symbols"] += symbols
-        if used + length + 4 > ROOM:
+        if used + length + 6 > room:
             break
-        used += length + 4
+        used += length + 6
         entries.append((length, place % 4, changes))
     return sent, ways, total, entries, used
 
@@ -89,12 +89,13 @@ def report_numbers(text):
 
 
 def check_report(text):
-    sent, ways, total, entries, used = counted()
     report, listing = text.split("\nIts listing", 1)
     said = report_numbers(report)
     by = {}
     for (heading, what), number in said.items():
         by.setdefault(heading, []).append(number)
+    room = by["The record"][0]
+    sent, ways, total, entries, used = counted(room)
     accepted = sum(ways[:3])
     expect("the sample is counted", by["The sample"] == [len(list(frames())), total["left"], sum(sent.values()),
                                                          len(list(frames())) - total["left"] - sum(sent.values())])
@@ -106,7 +107,8 @@ def check_report(text):
     refused = by["Refused, by number"]
     expect("refused: all that was damaged beyond repair, and what had no room", refused[:2] == [0, 0]
            and refused[2] + refused[3] == total["refused"] and refused[4:] == [0, accepted - len(entries), 0])
-    expect("the record", by["The record"] == [ROOM, used, len(entries)])
+    expect("the record", by["The record"] == [room, used, len(entries)])
+    expect("the record was filled, and the walk ended there", accepted == len(entries) + 1)
     wanted = [f"records {len(entries)}"] + [f"{i} {n} {q} {c}" for i, (n, q, c) in enumerate(entries)]
     expect("the listing", listing.splitlines()[2:] == wanted)
 

@@ -46,6 +46,8 @@ int untouched(const buffer *b)
 
 uint8_t frame[FRAME_SIZE], slot[SIZE];
 
+const uint32_t no_forms[NO_FORMS] = {0, 3, 256 + 1, 256 + 2, 65536 + 1, 65536 + 2, 0x80000002u, 4294967295u};
+
 /* Semi-octet k of word i stands at place 2 size - 1 - words k - i; place 2 j is the lower half of byte j (A.51). */
 void damage(uint8_t *bytes, size_t size, size_t i, unsigned changes)
 {
@@ -71,7 +73,7 @@ int main(void)
     EXPECT(silberlaus_protect(SIZE, MODE, REQUEST, frame, FRAME_SIZE, slot, SIZE) == SILBERLAUS_ACCEPTED);
     group(slot_calls, "slots: frame size, protect, unprotect, and their refusals");
     group(frame_calls, "frames: line count, read frame, read entry, and their refusals");
-    group(record_calls, "records: new, entries, entry, add, and their refusals");
+    group(record_calls, "records: new, entries, entry, add, moves, and their refusals");
     group(layouts, "structs: every field where the library puts it");
     group(stacks, "stack: no call needs more than the header says");
     return wrong > 0;

@@ -27,6 +27,10 @@ int guards_hold(const buffer *b);
 enum { SIZE = 80, MODE = 3, REQUEST = 2, FRAME_SIZE = 53, WORDS = 11, REPAIRABLE = 2 };
 extern uint8_t frame[FRAME_SIZE], slot[SIZE];
 
+/* Forms of a record that are none; some are 1 or 2 once they are narrowed. */
+enum { NO_FORMS = 8 };
+extern const uint32_t no_forms[NO_FORMS];
+
 /* Changes `changes` semi-octets of word i of a slot, each in two bits. */
 enum { BITS_EACH = 2 };
 void damage(uint8_t *bytes, size_t size, size_t i, unsigned changes);

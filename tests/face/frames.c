@@ -1,5 +1,5 @@
-/* The frames' calls: line count; read_frame, which refuses with 1, 2, then 5; read_entry, which refuses with the rate's 1,
-   2, 7, the place's 1, then 5. What is read in the samples is compared field by field; tests/frame has the rest. */
+/* The frames' calls: line count; read_frame, which refuses with 1, 2, then 5; read_entry, which refuses with the form's and
+   the rate's 1, 2, 7, the place's 1, then 5. What is read in the samples is compared field by field; tests/frame has the rest. */
 #include <string.h>
 
 #include "check.h"
@@ -102,52 +102,76 @@ static void read_refuses(void)
     }
 }
 
-/* A record of all samples, each at its place. */
-static size_t record_of_samples(uint8_t *record)
+/* A record of all samples, each at its place: in form 2, and moved to form 1. */
+static uint8_t records[3][ROOM];
+static size_t lengths[3];
+
+static void record_of_samples(void)
 {
     uint8_t bytes[SILBERLAUS_FRAME_MAX];
-    uint32_t used = SILBERLAUS_RECORD_MIN;
-    EXPECT(silberlaus_record_new(record, ROOM) == SILBERLAUS_ACCEPTED);
-    for (size_t k = 0; k < SAMPLES; k++) {
+    uint32_t used = SILBERLAUS_RECORD_MIN_2;
+    EXPECT(silberlaus_record_new(2, records[2], ROOM) == SILBERLAUS_ACCEPTED);
+    for (uint32_t k = 0; k < SAMPLES; k++) {
         size_t length = sample_bytes(&samples[k], bytes);
-        used = silberlaus_record_add(record, ROOM, used, bytes, length, k % 4, (uint32_t)k, (uint32_t)length).used;
+        used = silberlaus_record_add(records[2], ROOM, used, bytes, length, k % 4, k, 2 * k, (uint32_t)length).used;
         EXPECT(used > 0);
     }
-    return used;
+    lengths[2] = used;
+    lengths[1] = silberlaus_record_to_form_1(records[2], used, records[1], ROOM).used;
+    EXPECT(lengths[1] == lengths[2] - 2 * SAMPLES - 1);
 }
 
-static void entry_answers(const uint8_t *record, size_t used, size_t place, uint32_t khz, size_t lines, size_t bits,
-                          const silberlaus_frame *want)
+/* The record in this form, its first `used` bytes, is read as one of the form told. */
+static void told_answers(uint32_t told, uint32_t form, size_t used, size_t place, uint32_t khz, size_t lines, size_t bits,
+                         const silberlaus_frame *want)
 {
-    const uint8_t *from = lend(&in, record, used);
+    const uint8_t *from = lend(&in, records[form], used);
     int32_t *spectrum = lend_spectrum(lines);
     uint8_t *residual = lend_residual(bits);
-    silberlaus_frame got = silberlaus_read_entry(from, used, place, khz, spectrum, lines, residual, bits);
+    silberlaus_frame got = silberlaus_read_entry(told, from, used, place, khz, spectrum, lines, residual, bits);
     answers(got, want, spectrum, residual, lines);
 }
 
-/* An entry reads as its frame does; 1, 2, 7, 1 and 5, each although what would be refused later is wrong too. */
-static void read_entries(void)
+static void entry_answers(uint32_t form, size_t used, size_t place, uint32_t khz, size_t lines, size_t bits,
+                          const silberlaus_frame *want)
 {
-    static uint8_t record[ROOM];
-    static const silberlaus_frame setting = {.number = SILBERLAUS_BAD_SETTING}, length = {.number = SILBERLAUS_BAD_LENGTH},
-                                  no_record = {.number = SILBERLAUS_NOT_A_RECORD};
-    size_t used = record_of_samples(record);
+    told_answers(form, form, used, place, khz, lines, bits, want);
+}
+
+static const silberlaus_frame setting = {.number = SILBERLAUS_BAD_SETTING}, length = {.number = SILBERLAUS_BAD_LENGTH},
+                              no_record = {.number = SILBERLAUS_NOT_A_RECORD};
+
+/* An entry reads as its frame does; 1, 2, 7, 1 and 5, each although what would be refused later is wrong too. */
+static void read_entries(uint32_t form)
+{
+    size_t used = lengths[form];
     for (size_t k = 0; k < SAMPLES; k++) {
         size_t lines = silberlaus_line_count(samples[k].khz);
-        entry_answers(record, used, k, samples[k].khz, lines, lines, &samples[k].fields);
-        entry_answers(record, used, k, samples[k].khz + 1, lines, lines, &setting);
+        entry_answers(form, used, k, samples[k].khz, lines, lines, &samples[k].fields);
+        entry_answers(form, used, k, samples[k].khz + 1, lines, lines, &setting);
     }
-    entry_answers(record, used, 0, 48, 400, 399, &length);
-    entry_answers(record, used, 0, 48, 399, 400, &length);
-    entry_answers(record, used, 0, 48, 0, 0, &length);
-    entry_answers(record, used - 1, SAMPLES, 44, 1, 1, &setting);
-    entry_answers(record, used - 1, SAMPLES, 48, 400, 1, &length);
-    entry_answers(record, used - 1, SAMPLES, 48, 400, 400, &no_record);
-    entry_answers(record, 0, 0, 48, 400, 400, &no_record);
-    entry_answers(record, SILBERLAUS_RECORD_MAX + 1, 0, 48, 400, 400, &no_record);
-    entry_answers(record, used, SAMPLES, 48, 400, 400, &setting);
-    entry_answers(record, used, SIZE_MAX, 48, 400, 400, &setting);
+    entry_answers(form, used, 0, 48, 400, 399, &length);
+    entry_answers(form, used, 0, 48, 399, 400, &length);
+    entry_answers(form, used, 0, 48, 0, 0, &length);
+    entry_answers(form, used - 1, SAMPLES, 44, 1, 1, &setting);
+    entry_answers(form, used - 1, SAMPLES, 48, 400, 1, &length);
+    entry_answers(form, used - 1, SAMPLES, 48, 400, 400, &no_record);
+    entry_answers(form, 0, 0, 48, 400, 400, &no_record);
+    entry_answers(form, SILBERLAUS_RECORD_MAX + 1, 0, 48, 400, 400, &no_record);
+    entry_answers(form, used, SAMPLES, 48, 400, 400, &setting);
+    entry_answers(form, used, SIZE_MAX, 48, 400, 400, &setting);
+    told_answers(3 - form, form, used, 0, 48, 400, 400, &no_record);
+}
+
+/* Any other form is 1, whatever else is wrong. */
+static void read_no_form(uint32_t told)
+{
+    for (uint32_t form = 1; form <= 2; form++) {
+        told_answers(told, form, lengths[form], 0, 48, 400, 400, &setting);
+        told_answers(told, form, lengths[form], 0, 48, 399, 400, &setting);
+        told_answers(told, form, lengths[form] - 1, SAMPLES, 48, 400, 400, &setting);
+        told_answers(told, form, 0, 0, 44, 0, 0, &setting);
+    }
 }
 
 void frame_calls(void)
@@ -156,5 +180,9 @@ void frame_calls(void)
     line_counts();
     read_samples();
     read_refuses();
-    read_entries();
+    record_of_samples();
+    read_entries(1);
+    read_entries(2);
+    for (size_t k = 0; k < COUNT(no_forms); k++)
+        read_no_form(no_forms[k]);
 }

@@ -1,4 +1,5 @@
-// The header as C++ takes it: a slot is protected, damaged, unprotected, its frame kept in a record and read there.
+// The header as C++ takes it: a slot is protected, damaged, unprotected, its frame kept in a record and read there, and the
+// record moved to form 1 and back.
 #include <array>
 #include <cstdio>
 
@@ -8,24 +9,28 @@ int main()
 {
     std::array<uint8_t, SILBERLAUS_SLOT_MAX> slot{};
     std::array<uint8_t, SILBERLAUS_SLOT_FRAME_MAX> frame{}, back{};
-    std::array<uint8_t, 512> record{};
+    std::array<uint8_t, 512> record{}, in_form_1{}, in_form_2{};
     uint8_t number = silberlaus_protect(slot.size(), 2, 1, frame.data(), frame.size(), slot.data(), slot.size());
     slot[0] ^= 1;
     silberlaus_unprotected u = silberlaus_unprotect(slot.size(), 2, slot.data(), slot.size(), back.data(), back.size());
-    uint8_t made = silberlaus_record_new(record.data(), record.size());
-    silberlaus_added a = silberlaus_record_add(record.data(), record.size(), SILBERLAUS_RECORD_MIN, back.data(), back.size(),
-                                               u.request, u.semi_octets, SILBERLAUS_SLOT_FRAME_MAX);
-    silberlaus_entry e = silberlaus_record_entry(record.data(), a.used, 0);
+    uint8_t made = silberlaus_record_new(2, record.data(), record.size());
+    silberlaus_added a = silberlaus_record_add(record.data(), record.size(), SILBERLAUS_RECORD_MIN_2, back.data(), back.size(),
+                                               u.request, u.semi_octets, u.bits, SILBERLAUS_SLOT_FRAME_MAX);
+    silberlaus_entry e = silberlaus_record_entry(2, record.data(), a.used, 0);
+    silberlaus_added to_1 = silberlaus_record_to_form_1(record.data(), a.used, in_form_1.data(), in_form_1.size());
+    silberlaus_added to_2 = silberlaus_record_to_form_2(in_form_1.data(), to_1.used, in_form_2.data(), in_form_2.size());
+    silberlaus_entry o = silberlaus_record_entry(1, in_form_1.data(), to_1.used, 0);
     std::array<int32_t, SILBERLAUS_LINES_MAX> spectrum{};
     std::array<uint8_t, SILBERLAUS_LINES_MAX> residual{};
     size_t lines = silberlaus_line_count(48);
     silberlaus_frame f = silberlaus_read_frame(48, back.data(), back.size(), spectrum.data(), lines, residual.data(), lines);
-    silberlaus_frame g = silberlaus_read_entry(record.data(), a.used, 0, 48, spectrum.data(), lines, residual.data(), lines);
+    silberlaus_frame g = silberlaus_read_entry(2, record.data(), a.used, 0, 48, spectrum.data(), lines, residual.data(), lines);
     bool right = number == SILBERLAUS_ACCEPTED && u.number == SILBERLAUS_ACCEPTED && u.request == 1 && u.semi_octets == 1
                  && u.bits == 1 && back == frame && made == SILBERLAUS_ACCEPTED
-                 && a.number == SILBERLAUS_ACCEPTED && a.used == 351
-                 && silberlaus_record_entries(record.data(), a.used).entries == 1 && e.length == 343 && e.count == 1
-                 && silberlaus_record_entry(record.data(), a.used, 1).number == SILBERLAUS_BAD_SETTING
+                 && a.number == SILBERLAUS_ACCEPTED && a.used == 354
+                 && silberlaus_record_entries(2, record.data(), a.used).entries == 1 && e.length == 343 && e.count == 1
+                 && e.bits == 1 && silberlaus_record_entry(2, record.data(), a.used, 1).number == SILBERLAUS_BAD_SETTING
+                 && to_1.used == 351 && o.length == 343 && o.bits == SILBERLAUS_BITS_UNKNOWN && to_2.used == a.used
                  && lines == spectrum.size() && f.number == g.number && f.cause == g.cause;
     std::puts(right ? "from C++: as it should be" : "from C++: WRONG");
     return right ? 0 : 1;

@@ -11,13 +11,23 @@ _Static_assert(sizeof(silberlaus_entries) == 8, "eight bytes, one register");
 _Static_assert(sizeof(silberlaus_entry) == 12, "twelve bytes, two registers");
 _Static_assert(sizeof(silberlaus_frame) == 48, "forty-eight bytes, in memory");
 
+/* The names of the record's sizes, as document 02 has them. */
+_Static_assert(SILBERLAUS_BITS_MAX == 648 && SILBERLAUS_BITS_MAX == 4 * SILBERLAUS_SEMI_OCTETS_MAX, "bits");
+_Static_assert(SILBERLAUS_BITS_UNKNOWN == 65535, "unknown bits");
+_Static_assert(SILBERLAUS_RECORD_MIN_1 == 4 && SILBERLAUS_RECORD_MIN_2 == 5, "records with no entries");
+_Static_assert(SILBERLAUS_RECORD_MAX == 65536, "the largest record");
+_Static_assert(SILBERLAUS_ENTRY_OVERHEAD_1 == 4 && SILBERLAUS_ENTRY_OVERHEAD_2 == 6, "bytes beside a frame");
+_Static_assert(SILBERLAUS_ENTRIES_MAX_1 == 2730 && SILBERLAUS_ENTRIES_MAX_2 == 2520, "entries of 20 bytes");
+
 /* The same functions, returning what is in the two registers. */
 typedef struct { uint64_t low, high; } registers;
 registers raw_unprotect(size_t, uint32_t, const uint8_t *, size_t, uint8_t *, size_t) __asm__("silberlaus_unprotect");
-registers raw_entries(const uint8_t *, size_t) __asm__("silberlaus_record_entries");
-registers raw_entry(const uint8_t *, size_t, size_t) __asm__("silberlaus_record_entry");
-registers raw_add(uint8_t *, size_t, size_t, const uint8_t *, size_t, uint32_t, uint32_t,
+registers raw_entries(uint32_t, const uint8_t *, size_t) __asm__("silberlaus_record_entries");
+registers raw_entry(uint32_t, const uint8_t *, size_t, size_t) __asm__("silberlaus_record_entry");
+registers raw_add(uint8_t *, size_t, size_t, const uint8_t *, size_t, uint32_t, uint32_t, uint32_t,
                   uint32_t) __asm__("silberlaus_record_add");
+registers raw_to_form_2(const uint8_t *, size_t, uint8_t *, size_t) __asm__("silberlaus_record_to_form_2");
+registers raw_to_form_1(const uint8_t *, size_t, uint8_t *, size_t) __asm__("silberlaus_record_to_form_1");
 void *raw_read_frame(void *, uint32_t, const uint8_t *, size_t, int32_t *, size_t, uint8_t *,
                      size_t) __asm__("silberlaus_read_frame");
 
@@ -52,43 +62,64 @@ static void unprotected(void)
     ARE(r, FIELD(S, number, SILBERLAUS_BAD_LENGTH), FIELD(S, request, 0), FIELD(S, semi_octets, 0), FIELD(S, bits, 0));
 }
 
-static uint8_t record[SILBERLAUS_RECORD_MAX], frames[SILBERLAUS_FRAME_MAX];
+static uint8_t record[SILBERLAUS_RECORD_MAX], moved[SILBERLAUS_RECORD_MAX], frames[SILBERLAUS_FRAME_MAX];
 
-/* Entries of 400 bytes, so that the last one starts at `start`, above 65,000. */
-enum { LONG_ENTRIES = 162, START = (LONG_ENTRIES - 1) * 404, USED = START + 408 };
+/* Entries of 400 bytes, so that the last one starts far on, in form 2 and moved to form 1; its bits take two bytes. */
+enum { LONG_ENTRIES = 161, START = (LONG_ENTRIES - 1) * 406, USED = START + 411, START_1 = (LONG_ENTRIES - 1) * 404,
+       USED_1 = START_1 + 408, BITS = 0x203 };
 
 static void added(void)
 {
     typedef silberlaus_added S;
     registers r = {0, 0};
-    size_t used = SILBERLAUS_RECORD_MIN;
-    EXPECT(silberlaus_record_new(record, sizeof record) == SILBERLAUS_ACCEPTED);
+    size_t used = SILBERLAUS_RECORD_MIN_2;
+    EXPECT(silberlaus_record_new(2, record, sizeof record) == SILBERLAUS_ACCEPTED);
     for (uint32_t k = 0; k < LONG_ENTRIES; k++) {
-        r = raw_add(record, sizeof record, used, frames, 400, 2, 161, 400);
-        used += 404;
+        r = raw_add(record, sizeof record, used, frames, 400, 2, 161, BITS, 400);
+        used += 406;
         ARE(r, FIELD(S, number, 0), FIELD(S, used, used));
     }
-    r = raw_add(record, sizeof record, used, frames, 400, 2, 161, 400);
+    r = raw_add(record, sizeof record, used, frames, 400, 2, 161, BITS, 400);
     ARE(r, FIELD(S, number, SILBERLAUS_NO_ROOM), FIELD(S, used, 0));
+}
+
+static void moves(void)
+{
+    typedef silberlaus_added S;
+    static uint8_t back[SILBERLAUS_RECORD_MAX];
+    registers r = raw_to_form_1(record, USED, moved, sizeof moved);
+    ARE(r, FIELD(S, number, 0), FIELD(S, used, USED_1));
+    r = raw_to_form_2(moved, USED_1, back, sizeof back);
+    ARE(r, FIELD(S, number, 0), FIELD(S, used, USED));
+    r = raw_to_form_1(record, USED, back, USED_1 - 1);
+    ARE(r, FIELD(S, number, SILBERLAUS_NO_ROOM), FIELD(S, used, 0));
+    r = raw_to_form_2(record, USED, back, sizeof back);
+    ARE(r, FIELD(S, number, SILBERLAUS_NOT_A_RECORD), FIELD(S, used, 0));
 }
 
 static void entries(void)
 {
     typedef silberlaus_entries S;
-    registers r = raw_entries(record, USED);
+    registers r = raw_entries(2, record, USED);
     ARE(r, FIELD(S, number, 0), FIELD(S, entries, LONG_ENTRIES));
-    r = raw_entries(record, USED - 1);
+    r = raw_entries(1, moved, USED_1);
+    ARE(r, FIELD(S, number, 0), FIELD(S, entries, LONG_ENTRIES));
+    r = raw_entries(2, record, USED - 1);
     ARE(r, FIELD(S, number, SILBERLAUS_NOT_A_RECORD), FIELD(S, entries, 0));
 }
 
 static void entry(void)
 {
     typedef silberlaus_entry S;
-    registers r = raw_entry(record, USED, LONG_ENTRIES - 1);
-    ARE(r, FIELD(S, number, 0), FIELD(S, request, 2), FIELD(S, count, 161), FIELD(S, length, 400), FIELD(S, start, START));
-    r = raw_entry(record, USED, LONG_ENTRIES);
+    registers r = raw_entry(2, record, USED, LONG_ENTRIES - 1);
+    ARE(r, FIELD(S, number, 0), FIELD(S, request, 2), FIELD(S, count, 161), FIELD(S, length, 400), FIELD(S, bits, BITS),
+        FIELD(S, start, START));
+    r = raw_entry(1, moved, USED_1, LONG_ENTRIES - 1);
+    ARE(r, FIELD(S, number, 0), FIELD(S, request, 2), FIELD(S, count, 161), FIELD(S, length, 400),
+        FIELD(S, bits, SILBERLAUS_BITS_UNKNOWN), FIELD(S, start, START_1));
+    r = raw_entry(2, record, USED, LONG_ENTRIES);
     ARE(r, FIELD(S, number, SILBERLAUS_BAD_SETTING), FIELD(S, request, 0), FIELD(S, count, 0), FIELD(S, length, 0),
-        FIELD(S, start, 0));
+        FIELD(S, bits, 0), FIELD(S, start, 0));
 }
 
 /* The library writes the struct's bytes and none beside them, and every field where the header has it. */
@@ -117,6 +148,7 @@ void layouts(void)
     }
     unprotected();
     added();
+    moves();
     entries();
     entry();
 }

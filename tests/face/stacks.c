@@ -29,8 +29,9 @@ static size_t depth_of(void (*call)(void))
 }
 
 /* What the calls below work on; a call's answer is kept, so that none is left out. */
-static uint8_t sent[SILBERLAUS_SLOT_MAX], frames[SILBERLAUS_FRAME_MAX], record[SILBERLAUS_RECORD_MAX];
-static size_t size, used;
+static uint8_t sent[SILBERLAUS_SLOT_MAX], frames[SILBERLAUS_FRAME_MAX];
+static uint8_t record[SILBERLAUS_RECORD_MAX], moved[SILBERLAUS_RECORD_MAX];
+static size_t size, used, moved_used;
 static uint32_t mode;
 static volatile uint64_t kept;
 
@@ -63,16 +64,28 @@ static void read_frame(void)
     kept = silberlaus_read_frame(mode, frames, size, spectrum, lines, residual, lines).number;
 }
 
+/* The record is of form 2, and moved to form 1 in `moved`. */
 static void read_entry(void)
 {
     size_t lines = silberlaus_line_count(mode);
-    kept = silberlaus_read_entry(record, used, 0, mode, spectrum, lines, residual, lines).number;
+    kept = silberlaus_read_entry(2, record, used, 0, mode, spectrum, lines, residual, lines).number;
 }
 
-static void record_new(void) { kept = silberlaus_record_new(record, sizeof record); }
-static void record_add(void) { kept = silberlaus_record_add(record, sizeof record, used, frames, 20, 1, 2, 20).used; }
-static void record_entries(void) { kept = silberlaus_record_entries(record, used).entries; }
-static void record_entry(void) { kept = silberlaus_record_entry(record, used, 0).length; }
+static void read_entry_1(void)
+{
+    size_t lines = silberlaus_line_count(mode);
+    kept = silberlaus_read_entry(1, moved, moved_used, 0, mode, spectrum, lines, residual, lines).number;
+}
+
+static void record_new(void) { kept = silberlaus_record_new(2, record, sizeof record); }
+static void record_new_1(void) { kept = silberlaus_record_new(1, moved, sizeof moved); }
+static void record_add(void) { kept = silberlaus_record_add(record, sizeof record, used, frames, 20, 1, 2, 7, 20).used; }
+static void record_entries(void) { kept = silberlaus_record_entries(2, record, used).entries; }
+static void record_entries_1(void) { kept = silberlaus_record_entries(1, moved, moved_used).entries; }
+static void record_entry(void) { kept = silberlaus_record_entry(2, record, used, 0).length; }
+static void record_entry_1(void) { kept = silberlaus_record_entry(1, moved, moved_used, 0).length; }
+static void to_form_1(void) { kept = silberlaus_record_to_form_1(record, used, moved, sizeof moved).used; }
+static void to_form_2(void) { kept = silberlaus_record_to_form_2(moved, moved_used, record, sizeof record).used; }
 
 /* The most that was needed since it was last said. */
 static size_t most_needed;
@@ -111,14 +124,22 @@ static void slot_stacks(void)
 
 static void record_stacks(void)
 {
+    needs_at_most(record_new_1, SILBERLAUS_STACK_RECORD);
     needs_at_most(record_new, SILBERLAUS_STACK_RECORD);
-    used = SILBERLAUS_RECORD_MIN;
+    used = SILBERLAUS_RECORD_MIN_2;
     for (unsigned k = 0; k < 30; k++) {
         needs_at_most(record_add, SILBERLAUS_STACK_RECORD);
-        used += 24;
+        used += 26;
     }
     needs_at_most(record_entries, SILBERLAUS_STACK_RECORD);
     needs_at_most(record_entry, SILBERLAUS_STACK_RECORD);
+    needs_at_most(to_form_1, SILBERLAUS_STACK_RECORD);
+    moved_used = used - 2 * 30 - 1;
+    needs_at_most(record_entries_1, SILBERLAUS_STACK_RECORD);
+    needs_at_most(record_entry_1, SILBERLAUS_STACK_RECORD);
+    needs_at_most(to_form_2, SILBERLAUS_STACK_RECORD);
+    to_form_2();
+    EXPECT(kept == used);
 }
 
 /* Each sample as a frame and as an entry. */
@@ -128,10 +149,12 @@ static void frame_stacks(void)
         size = sample_bytes(&samples[k], frames);
         mode = samples[k].khz;
         record_new();
-        used = silberlaus_record_add(record, sizeof record, SILBERLAUS_RECORD_MIN, frames, size, 0, 0, (uint32_t)size).used;
+        used = silberlaus_record_add(record, sizeof record, SILBERLAUS_RECORD_MIN_2, frames, size, 0, 0, 0, (uint32_t)size).used;
+        moved_used = silberlaus_record_to_form_1(record, used, moved, sizeof moved).used;
         needs_at_most(line_count, SILBERLAUS_STACK_FRAME);
         needs_at_most(read_frame, SILBERLAUS_STACK_FRAME);
         needs_at_most(read_entry, SILBERLAUS_STACK_FRAME);
+        needs_at_most(read_entry_1, SILBERLAUS_STACK_FRAME);
     }
 }
 

@@ -39,12 +39,12 @@ fn say(text: &[u8]) {
     io::write_all(STDERR_FILENO, text);
 }
 
-// The walk with a new record, then what is written.
+// The walk with a new record of form 2, then what is written.
 fn run(sample: &[u8], frames: usize) {
-    let mut buffer = [0u8; 10000];
+    let mut buffer = [0u8; 10240];
     let mut text = [0u8; 8192];
     let mut lines = [0u8; 65536];
-    let made = record::new(&mut buffer);
+    let made = record::new(2, &mut buffer);
     let Made::Empty = made else {
         say(b"day: there is no room for a record\n");
         return;
@@ -63,7 +63,7 @@ fn show(
     text: &mut [u8],
     lines: &mut [u8],
 ) -> bool {
-    let t = day_way::walk(sample, buffer, 4);
+    let t = day_way::walk(sample, buffer, 5);
     let end = day_report::report(text, frames, buffer.len(), t);
     let used = t.used;
     // Never taken: an entry is stored only where there is room for it.

@@ -90,7 +90,7 @@ fn receive(
         count as usize == changes,
         bits as usize == changed_bits,
     );
-    keep(trip.khz, out, found, count, buffer, compared)
+    keep(trip.khz, out, found, count, bits, buffer, compared)
 }
 
 // The slot of a frame is made, changed on the way and unprotected.
@@ -134,7 +134,15 @@ fn lines_at(khz: u32) -> usize
 }
 
 // Reads an accepted frame, and stores it where that succeeds.
-fn keep(khz: u32, frame: &[u8], request: u8, count: u16, buffer: &mut [u8], t: Tally) -> Tally
+fn keep(
+    khz: u32,
+    frame: &[u8],
+    request: u8,
+    count: u16,
+    bits: u16,
+    buffer: &mut [u8],
+    t: Tally,
+) -> Tally
     requires { ⌜ length (now frame) ≤ 400 ⌝ }
 {
     let n = lines_at(khz);
@@ -143,7 +151,7 @@ fn keep(khz: u32, frame: &[u8], request: u8, count: u16, buffer: &mut [u8], t: T
     let reading = frame::read(khz, frame, &mut spectrum[..n], &mut residual[..n]);
     let answer = reading.answer;
     match answer {
-        Answer::Read(fields) => store(frame, request, count, buffer, counted(fields, t)),
+        Answer::Read(fields) => store(frame, request, count, bits, buffer, counted(fields, t)),
         _ => t.refuse(answer.number()),
     }
 }
@@ -155,7 +163,7 @@ fn counted(fields: Fields, t: Tally) -> Tally {
 }
 
 // Adds an entry to the record; only what was added is called stored.
-fn store(frame: &[u8], request: u8, count: u16, buffer: &mut [u8], t: Tally) -> Tally
+fn store(frame: &[u8], request: u8, count: u16, bits: u16, buffer: &mut [u8], t: Tally) -> Tally
     requires { ⌜ length (now frame) ≤ 400 ⌝ }
 {
     let n = frame.len();
@@ -165,6 +173,7 @@ fn store(frame: &[u8], request: u8, count: u16, buffer: &mut [u8], t: Tally) -> 
         frame,
         request as u32,
         count as u32,
+        bits as u32,
         n as u32,
     );
     match added {

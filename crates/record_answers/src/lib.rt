@@ -1,13 +1,14 @@
 // What the functions of the session record answer, and document 01's number of each answer (specs/Answers.antt). It stands over
 // `record_bytes`, whose `Located` says where an entry that was found stands.
-// Inner: `record` stands over it and hands the answers on to callers. It asks nothing.
+// Inner: `record` and `record_moving` stand over it and hand the answers on to callers. It asks nothing.
 ghost use mathlib.Core.Path.{_≡_};
-ghost use Rattle.record_answers.specs.Answers.{madeNumber, countedAnswer, foundAnswer, addedAnswer};
+ghost use Rattle.record_answers.specs.Answers.{madeNumber, countedAnswer, foundAnswer, addedAnswer, movedAnswer};
 use record_bytes::Located;
 
 // What making a record answers.
 pub enum Made {
     Empty,
+    NoForm,
     NoRoom,
 }
 
@@ -18,6 +19,7 @@ impl Made {
     {
         match self {
             Made::Empty => 0,
+            Made::NoForm => 1,
             Made::NoRoom => 6,
         }
     }
@@ -26,6 +28,7 @@ impl Made {
 // What asking for the number of entries answers.
 pub enum Counted {
     Entries(u32),
+    NoForm,
     NotRecord,
 }
 
@@ -36,6 +39,7 @@ impl Counted {
     {
         match self {
             Counted::Entries(_) => 0,
+            Counted::NoForm => 1,
             Counted::NotRecord => 7,
         }
     }
@@ -44,6 +48,7 @@ impl Counted {
 // What asking for an entry answers.
 pub enum Found {
     At(Located),
+    NoForm,
     NotRecord,
     NoPlace,
 }
@@ -55,6 +60,7 @@ impl Found {
     {
         match self {
             Found::At(_) => 0,
+            Found::NoForm => 1,
             Found::NotRecord => 7,
             Found::NoPlace => 1,
         }
@@ -79,6 +85,26 @@ impl Added {
             Added::BadSetting => 1,
             Added::NotRecord => 7,
             Added::NoRoom => 6,
+        }
+    }
+}
+
+// What moving a record to the other form answers: the used length of what was written, or a refusal.
+pub enum Moved {
+    Used(u32),
+    NotRecord,
+    NoRoom,
+}
+
+impl Moved {
+    // Document 01's number.
+    pub fn number(self) -> u8
+        ensures { λ r. ⌜ r ≡ movedAnswer self .number ⌝ }
+    {
+        match self {
+            Moved::Used(_) => 0,
+            Moved::NotRecord => 7,
+            Moved::NoRoom => 6,
         }
     }
 }

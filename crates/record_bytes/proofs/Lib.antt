@@ -4,3 +4,4 @@ pub mod Putting
 pub mod Before
 pub mod Inverse
 pub mod Walking
+pub mod Standing

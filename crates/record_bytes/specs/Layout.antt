@@ -1,11 +1,13 @@
--- The session record (document 01, "The session record"): how a list of entries looks as bytes, and which bytes are a record.
--- Assumes nothing.
+-- The session record (document 01, "The session record"; document 02 §2): how a list of entries looks as bytes in a form, and which bytes
+-- are a record of it. Assumes nothing.
 use mathlib.Core.Path.{_≡_}
-use mathlib.Core.Bool.{Bool, true, _&&_}
-use mathlib.Core.List.{List, [], _∷_, _++_}
+use mathlib.Core.Bool.{true}
+use mathlib.Core.List.{List, [], _∷_, _++_, map}
 use Prim.Native.Nat.{ℕ, zero, suc, _/_, _%_, _≤_}
 use lib.ListN.{length}
-use lib.Dec.{leb}
+use Rattle.record_forms.specs.declared.Form.{Form}
+use Rattle.record_forms.specs.Forms.{bitsSize, markSize, mark}
+use Rattle.record_forms.specs.Ranges.{inRange, heldBits}
 
 -- "all numbers big-endian": n in k bytes
 unfoldable pub big : ℕ → ℕ → List ℕ
@@ -17,30 +19,33 @@ pub record RecordEntry : Type 0 where
   pub frame : List ℕ
   pub request : ℕ
   pub count : ℕ
+  pub bits : ℕ
 
--- "then request (1), count (1, 0 to 162), length (2, 20 to 400)"
-unfoldable pub trailer : RecordEntry → List ℕ
-trailer e = e .request ∷ e .count ∷ big 2 (length (e .frame))
+-- "request 1, semi-octets 1, bits 2, length 2", the bits in as many bytes as the form has for them
+unfoldable pub trailerBytes : Form → ℕ → ℕ → ℕ → ℕ → List ℕ
+trailerBytes f request count bits size = request ∷ count ∷ (big (bitsSize f) bits ++ big 2 size)
+
+unfoldable pub trailer : Form → RecordEntry → List ℕ
+trailer f e = trailerBytes f (e .request) (e .count) (e .bits) (length (e .frame))
 
 -- "the frame, then" its trailer
-unfoldable pub entryBytes : RecordEntry → List ℕ
-entryBytes e = e .frame ++ trailer e
+unfoldable pub entryBytes : Form → RecordEntry → List ℕ
+entryBytes f e = e .frame ++ trailer f e
 
 -- the entries one after the other, oldest first
-unfoldable pub entriesBytes : List RecordEntry → List ℕ
-entriesBytes [] = []
-entriesBytes (e ∷ es) = entryBytes e ++ entriesBytes es
+unfoldable pub entriesBytes : Form → List RecordEntry → List ℕ
+entriesBytes f [] = []
+entriesBytes f (e ∷ es) = entryBytes f e ++ entriesBytes f es
 
--- "after the last entry, 4 bytes hold the number of entries"
-unfoldable pub recordBytes : List RecordEntry → List ℕ
-recordBytes es = entriesBytes es ++ big 4 (length es)
+-- "after the last entry, 4 bytes hold the number of entries", and the form's mark follows
+unfoldable pub endBytes : Form → ℕ → List ℕ
+endBytes f n = big 4 n ++ big (markSize f) (mark f)
 
--- the ranges of an entry's request, count and length
-unfoldable pub inRange : ℕ → ℕ → ℕ → Bool
-inRange request count size = leb request 3 && (leb count 162 && (leb 20 size && leb size 400))
+unfoldable pub recordBytes : Form → List RecordEntry → List ℕ
+recordBytes f es = entriesBytes f es ++ endBytes f (length es)
 
 abbrev pub EntryInRange : RecordEntry → Type 0
-EntryInRange e = inRange (e .request) (e .count) (length (e .frame)) ≡ true
+EntryInRange e = inRange (e .request) (e .count) (e .bits) (length (e .frame)) ≡ true
 
 abbrev pub AllInRange : List RecordEntry → Type 0
 AllInRange [] = Unit {0}
@@ -50,8 +55,15 @@ AllInRange (e ∷ es) = EntryInRange e × AllInRange es
 abbrev pub most : ℕ
 most = 65536
 
--- s is the record of the entries es
-pub record IsRecord (s : List ℕ) (es : List RecordEntry) : Type 0 where
-  pub bytes : s ≡ recordBytes es
+-- s is the record of the entries es in the form f
+pub record IsRecord (f : Form) (s : List ℕ) (es : List RecordEntry) : Type 0 where
+  pub bytes : s ≡ recordBytes f es
   pub ranges : AllInRange es
   pub size : length s ≤ most
+
+-- an entry as a form keeps it
+abbrev pub held : Form → RecordEntry → RecordEntry
+held f e = record { frame = e .frame; request = e .request; count = e .count; bits = heldBits f (e .bits) }
+
+abbrev pub heldAll : Form → List RecordEntry → List RecordEntry
+heldAll f es = map (held f) es

@@ -1,15 +1,18 @@
-// The bytes of a session record: the walk over it from the end back, one step an entry, and bytes put into a buffer. It stands over
-// nothing. specs/ says which bytes a list of entries is (Layout) and how they are read (Reading); proofs/Inverse.antt shows that reading
-// finds exactly that list.
-// Inner: `record_answers`, `record` and `record_listing` stand over it. It asks for places inside the bytes; `walk` asks nothing.
+// The bytes of a session record of either form: the walk over it from the end back, one step an entry, and bytes put into a buffer. It
+// stands over `record_forms`. specs/ says which bytes a list of entries is (Layout) and how they are read (Reading); proofs/Inverse.antt
+// shows that reading finds exactly that list.
+// Inner: `record_answers`, `record` and what stands over them. It asks for places inside the bytes; `walk` asks nothing.
 ghost use mathlib.Core.Path.{_≡_};
 ghost use mathlib.Core.Bool.{cond};
 ghost use Prim.Native.Nat.{_+_, _≤_, _<_};
 ghost use lib.ListN.{length};
 ghost use lib.Dec.{eqb};
-ghost use Rattle.record_bytes.specs.Layout.{big, inRange};
-ghost use Rattle.record_bytes.specs.Reading.{number, entryBefore, readRecord};
+ghost use Rattle.record_forms.specs.declared.Form.the-variants.{Two};
+ghost use Rattle.record_bytes.specs.Layout.{endBytes};
+ghost use Rattle.record_bytes.specs.Reading.{number, bitsAt, entryBefore, mayBe, readRecord};
 ghost use Rattle.record_bytes.specs.Steps.{put, stepOf, tailOf, walkOf};
+use record_forms::Form;
+use record_forms::in_range;
 use widening::wide;
 use widening::wide4;
 
@@ -19,6 +22,7 @@ pub struct Located {
     pub length: u16,
     pub request: u8,
     pub count: u8,
+    pub bits: u16,
 }
 
 // What stands before a place of the record.
@@ -27,26 +31,10 @@ pub enum Step {
     Broken,
 }
 
-// What the whole walk finds: the number of entries with the one that was asked for, or no record.
+// What the whole walk finds: the number of entries with where the one that was asked for ends, or no record.
 pub enum Walked {
-    Whole(u32, Located),
+    Whole(u32, usize),
     Broken,
-}
-
-// Document 01's ranges of an entry's fields.
-pub fn in_range(request: usize, count: usize, length: usize) -> bool
-    ensures { λ r. ⌜ r ≡ inRange request count length ⌝ }
-{
-    match request {
-        0..=3 => match count {
-            0..=162 => match length {
-                20..=400 => true,
-                _ => false,
-            },
-            _ => false,
-        },
-        _ => false,
-    }
 }
 
 // The two bytes from `at` as a number.
@@ -67,26 +55,42 @@ fn number4(s: &[u8], at: usize) -> usize
     number2(s, at) * 65536 + number2(s, at + 2)
 }
 
+// The bits of an entry, which stand from `at` on where the form has them.
+fn bits_at(form: Form, s: &[u8], at: usize) -> usize
+    requires { ⌜ at + 2 ≤ length (now s) ⌝ }
+    ensures { λ r. ⌜ r ≡ bitsAt form (now (s .entry)) at ⌝ }
+    ensures { λ r. ⌜ r < 65536 ⌝ }
+{
+    match form {
+        Form::One => 65535,
+        Form::Two => number2(s, at),
+    }
+}
+
 // The entry that ends before `end`.
-pub fn entry_before(bytes: &[u8], end: usize) -> Step
+pub fn entry_before(form: Form, bytes: &[u8], end: usize) -> Step
     requires { ⌜ end ≤ length (now bytes) ⌝ }
     requires { ⌜ end ≤ 65536 ⌝ }
-    ensures { λ r. ⌜ r ≡ stepOf (entryBefore (now (bytes .entry)) end) end ⌝ }
+    ensures { λ r. ⌜ r ≡ stepOf form (entryBefore form (now (bytes .entry)) end) end ⌝ }
 {
-    if end < 4 {
+    let size = form.trailer();
+    if end < size {
         return Step::Broken;
     }
-    let request = bytes[end - 4];
-    let count = bytes[end - 3];
+    let at = end - size;
+    let request = bytes[at];
+    let count = bytes[at + 1];
+    let bits = bits_at(form, bytes, at + 2);
     let length = number2(bytes, end - 2);
-    if in_range(wide(request), wide(count), length) {
-        if length + 4 <= end {
-            let start = end - (length + 4);
+    if in_range(wide(request), wide(count), bits, length) {
+        if length <= at {
+            let start = at - length;
             Step::Entry(Located {
                 start: start as u32,
                 length: length as u16,
                 request,
                 count,
+                bits: bits as u16,
             })
         } else {
             Step::Broken
@@ -96,40 +100,48 @@ pub fn entry_before(bytes: &[u8], end: usize) -> Step
     }
 }
 
-// The entry where it is the one asked for, else what was found before.
-fn kept(at: usize, place: usize, e: Located, found: Located) -> Located
-    ensures { λ r. ⌜ r ≡ cond (eqb at place) e found ⌝ }
+// Where the entry ends if it is the one asked for, else what was found before.
+fn kept(at: usize, place: usize, end: usize, found: usize) -> usize
+    ensures { λ r. ⌜ r ≡ cond (eqb at place) end found ⌝ }
 {
-    if at == place { e } else { found }
+    if at == place { end } else { found }
 }
 
-// Walks to byte 0, and notes the entry at `place` on the way.
-pub fn walk(bytes: &[u8], place: usize) -> Walked
-    ensures { λ r. ⌜ r ≡ walkOf (readRecord (now (bytes .entry))) place ⌝ }
+// Whether the bytes may be a record of the form by their number and their last byte.
+fn may_be(form: Form, bytes: &[u8]) -> bool
+    ensures { λ r. ⌜ r ≡ mayBe form (now (bytes .entry)) ⌝ }
 {
     let size = bytes.len();
-    if size < 4 {
-        return Walked::Broken;
+    if size < form.end() {
+        return false;
     }
     if 65536 < size {
+        return false;
+    }
+    match form {
+        Form::One => true,
+        Form::Two => bytes[size - 1] == 2,
+    }
+}
+
+// Walks to byte 0, and notes on the way where the entry at `place` ends.
+pub fn walk(form: Form, bytes: &[u8], place: usize) -> Walked
+    ensures { λ r. ⌜ r ≡ walkOf form (readRecord form (now (bytes .entry))) place ⌝ }
+{
+    if !may_be(form, bytes) {
         return Walked::Broken;
     }
-    let mut end = size - 4;
+    let mut end = bytes.len() - form.end();
     let entries = number4(bytes, end);
     let mut left = entries;
-    let mut found = Located {
-        start: 0,
-        length: 0,
-        request: 0,
-        count: 0,
-    };
+    let mut found = 0;
     while 0 < left {
-        let step = entry_before(bytes, end);
+        let step = entry_before(form, bytes, end);
         let Step::Entry(e) = step else {
             return Walked::Broken;
         };
         left -= 1;
-        found = kept(left, place, e, found);
+        found = kept(left, place, end, found);
         end = wide4(e.start);
     }
     if end == 0 {
@@ -139,9 +151,9 @@ pub fn walk(bytes: &[u8], place: usize) -> Walked
     }
 }
 
-// The number of entries as it stands at the end of a record.
-pub fn end_number(n: u32) -> [u8; 4]
-    ensures { λ r. ⌜ r ≡ big 4 n ⌝ }
+// The number of entries as it stands at the end of a record of form 2, with the form's mark; form 1's end is the first four bytes.
+pub fn end_number(n: u32) -> [u8; 5]
+    ensures { λ r. ⌜ r ≡ endBytes Two n ⌝ }
 {
     let a = n / 256;
     let b = a / 256;
@@ -151,26 +163,31 @@ pub fn end_number(n: u32) -> [u8; 4]
         (b % 256) as u8,
         (a % 256) as u8,
         (n % 256) as u8,
+        2,
     ]
 }
 
-// What follows an added frame: request, count and length, then the number of entries.
-pub fn tail(request: u32, count: u32, length: u32, n: u32) -> [u8; 8]
+// What follows a frame that is added in form 2: request, count, bits and length, then the record's end.
+pub fn tail(request: u32, count: u32, bits: u32, length: u32, n: u32) -> [u8; 11]
     requires { ⌜ request < 256 ⌝ }
     requires { ⌜ count < 256 ⌝ }
-    ensures { λ r. ⌜ r ≡ tailOf request count length n ⌝ }
+    ensures { λ r. ⌜ r ≡ tailOf Two request count bits length n ⌝ }
 {
     let e = end_number(n);
+    let b = bits / 256;
     let l = length / 256;
     [
         request as u8,
         count as u8,
+        (b % 256) as u8,
+        (bits % 256) as u8,
         (l % 256) as u8,
         (length % 256) as u8,
         e[0],
         e[1],
         e[2],
         e[3],
+        e[4],
     ]
 }
 

@@ -3,48 +3,12 @@ use mathlib.Core.Path.{_≡_, refl, sym, ap, _∙_, subst}
 use mathlib.Core.List.{List, [], _∷_, _++_, append-assoc, append-nil}
 use Prim.Native.Nat.{ℕ, zero, suc, _+_, _*_, _-_, _/_, _%_, _^_, _≤_, _<_}
 use native.Mathlib.Nat.{add-zero, pow-suc, div-lt-iff-lt-mul}
-use native.Mathlib.Numerals.{add-one}
 use native.Mathlib.Omega.{arith}
-use lib.ListN.{length, take, drop, set, length-append, length-set, take-append-drop}
-use lib.Seq.{set-split, take-take, take-append-le, drop-at, length-take-le}
+use lib.ListN.{length, take, drop, set, length-set, take-append-drop}
 use borrow.Author.Tests.{ne-eqb}
 use Rattle.record_bytes.specs.Steps.{put, Placed}
 use Rattle.record_listing.specs.Listing.{leading, decimal, field}
-use Rattle.record_bytes.proofs.Putting.{length-put}
-
--- a byte that is stored is put
-pub set-put : (d : List ℕ) (at x : ℕ) → at < length d → set d at x ≡ put d at (x ∷ [])
-unfolding put
-set-put d at x h = set-split d at x h ∙ ap (λ (k : ℕ). take at d ++ (x ∷ drop k d)) (sym (add-one at))
-
--- y put in front of x is both put as one
-pub put-before : (d : List ℕ) (q r : ℕ) (y x : List ℕ) → q + length y ≡ r → r + length x ≤ length d → put (put d r x) q y ≡ put d q (y ++ x)
-unfolding put
-put-before d q r y x h k =
-    let rest : List ℕ = x ++ drop (r + length x) d in
-    let l : length (take r d) ≡ r = length-take-le r d (omega arith) in
-    let t : take q (take r d ++ rest) ≡ take q d = take-append-le q (take r d) rest (omega arith) ∙ take-take q r d (omega arith) in
-    let p : drop (q + length y) (take r d ++ rest) ≡ rest = ap (λ (n : ℕ). drop n (take r d ++ rest)) h ∙ drop-at (take r d) rest r l in
-    let e : r + length x ≡ q + length (y ++ x) = sym (ap (λ (n : ℕ). q + n) (length-append y x) ∙ (omega arith)) in
-    ap (λ (a : List ℕ). a ++ (y ++ drop (q + length y) (take r d ++ rest))) t
-    ∙ ap (λ (a : List ℕ). take q d ++ (y ++ a)) p
-    ∙ ap (λ (n : ℕ). take q d ++ (y ++ (x ++ drop n d))) e
-    ∙ ap (λ (a : List ℕ). take q d ++ a) (sym (append-assoc y x (drop (q + length (y ++ x)) d)))
-
-pub placed-length : (d after : List ℕ) (r end : ℕ) (x : List ℕ) → end ≤ length d → Placed d after r end x → length after ≡ length d
-placed-length d after r end x h p =
-    let s = p .sized in
-    ap length (p .placed) ∙ length-put d r x (omega arith)
-
-pub placed-before : (d e f : List ℕ) (q r end : ℕ) (y x : List ℕ) → end ≤ length d → Placed d e r end x → Placed e f q r y
-    → Placed d f q end (y ++ x)
-placed-before d e f q r end y x h a b =
-    let s = a .sized in
-    let t = b .sized in
-    record {
-      sized = ap (λ (n : ℕ). q + n) (length-append y x) ∙ (omega arith);
-      placed = b .placed ∙ ap (λ (l : List ℕ). put l q y) (a .placed) ∙ put-before d q r y x t (omega arith);
-    }
+use Rattle.record_bytes.proofs.Putting.{set-put, placed-length, placed-before}
 
 -- ---- the digits
 

@@ -1,18 +1,18 @@
-// The listing of a record, built from the end of a buffer back, since that is how the entries are read: one more step an entry.
-// It stands over `record`. `list` is total and equals its definition in specs/Listing.antt, the lent buffer too.
+// The listing of a record of either form, built from the end of a buffer back, since that is how the entries are read: one more step an
+// entry. It stands over `record_bytes`. `list` is total and equals its definition in specs/Listing.antt, the lent buffer too.
 ghost use mathlib.Core.Path.{_≡_};
 ghost use Prim.Native.Nat.{_+_, _≤_, _<_};
 ghost use lib.ListN.{length};
-ghost use Rattle.record_answers.specs.Answers.{accepted};
-ghost use Rattle.record.specs.Answers.{entriesAnswer};
-ghost use Rattle.record_bytes.specs.Steps.{Placed};
-ghost use Rattle.record_listing.specs.Listing.{leading, field, line, linesIn, listedAnswer, listAnswer, listBuffer};
-use record::Counted;
-use record::entries;
+ghost use Rattle.record_bytes.specs.Steps.{Whole, Placed};
+ghost use Rattle.record_listing.specs.Listing.{leading, field, line, linesIn, knownIn};
+ghost use Rattle.record_listing.specs.Listing.{listedAnswer, listAnswer, listBuffer};
 use record_bytes::Located;
 use record_bytes::Step;
+use record_bytes::Walked;
 use record_bytes::copy_in;
 use record_bytes::entry_before;
+use record_bytes::walk;
+use record_forms::Form;
 use widening::wide;
 use widening::wide2;
 use widening::wide4;
@@ -21,6 +21,12 @@ use widening::wide4;
 pub enum Listed {
     From(usize),
     NoRoom,
+}
+
+// What the bytes are: a record of a form, with so many entries, or none.
+pub enum Known {
+    Record(Form, u32),
+    Damaged,
 }
 
 fn digit(d: usize) -> u8
@@ -88,18 +94,18 @@ fn put_line(out: &mut [u8], end: usize, place: usize, e: Located) -> usize
 }
 
 // Puts the lines of a record of n entries at the end of the buffer, the youngest first.
-fn put_lines(bytes: &[u8], n: usize, out: &mut [u8]) -> usize
-    requires { ⌜ accepted n ≡ entriesAnswer (now bytes) ⌝ }
+fn put_lines(form: Form, bytes: &[u8], n: usize, out: &mut [u8]) -> usize
+    requires { ⌜ Whole form (now bytes) n ⌝ }
     requires { ⌜ 65536 ≤ length (now out) ⌝ }
-    ensures { λ r. ⌜ Placed (now (out .entry)) (now (out .exit)) r (length (now (out .entry))) (linesIn (now (bytes .entry))) ⌝ }
+    ensures { λ r. ⌜ Placed (now (out .entry)) (now (out .exit)) r (length (now (out .entry))) (linesIn form (now (bytes .entry))) ⌝ }
     ensures { λ r. ⌜ 13 ≤ r ⌝ }
     ensures { λ r. ⌜ n < 10000 ⌝ }
 {
     let mut at = out.len();
-    let mut end = bytes.len() - 4;
+    let mut end = bytes.len() - form.end();
     let mut left = n;
     while 0 < left {
-        let step = entry_before(bytes, end);
+        let step = entry_before(form, bytes, end);
         let Step::Entry(e) = step else {
             return at;
         };
@@ -108,6 +114,23 @@ fn put_lines(bytes: &[u8], n: usize, out: &mut [u8]) -> usize
         end = wide4(e.start);
     }
     at
+}
+
+// A record of form 2 if the bytes are one, else of form 1, else none.
+fn either_form(bytes: &[u8]) -> Known
+    ensures { λ r. ⌜ r ≡ knownIn (now (bytes .entry)) ⌝ }
+{
+    let two = walk(Form::Two, bytes, 0);
+    match two {
+        Walked::Whole(n, _) => Known::Record(Form::Two, n),
+        Walked::Broken => {
+            let one = walk(Form::One, bytes, 0);
+            match one {
+                Walked::Whole(n, _) => Known::Record(Form::One, n),
+                Walked::Broken => Known::Damaged,
+            }
+        }
+    }
 }
 
 // Puts the listing at the end of a buffer of at least 65,536 bytes.
@@ -122,11 +145,11 @@ pub fn list(bytes: &[u8], out: &mut [u8]) -> Listed
     if 65536 < bytes.len() {
         return Listed::From(put_text(out, end, b"too long\n"));
     }
-    let counted = entries(bytes);
-    let Counted::Entries(n) = counted else {
+    let found = either_form(bytes);
+    let Known::Record(form, n) = found else {
         return Listed::From(put_text(out, end, b"damaged\n"));
     };
-    let below = put_lines(bytes, wide4(n), out);
+    let below = put_lines(form, bytes, wide4(n), out);
     let at = put_field(out, below, wide4(n), 10);
     Listed::From(put_text(out, at, b"records "))
 }

@@ -13,7 +13,7 @@ use Rattle.frame_settings.specs.Settings.{rateOf}
 use Rattle.frame_side.specs.Side.{headOf}
 use Rattle.frame_pair.specs.Pair.{pairOf}
 use Rattle.frame_pair.proofs.Escaping.{plane-both}
-use Rattle.record_bytes.specs.Layout.{recordBytes, entriesBytes, big}
+use Rattle.record_bytes.specs.Layout.{recordBytes, entriesBytes, endBytes, big}
 use Rattle.silberlaus.specs.SmallSums.{allSet, SmallSums}
 
 -- one bit more, set
@@ -22,7 +22,7 @@ all-set n = let e = pow-suc 2 n in let p = pow-pos n in omega arith
 
 pub small-sums :
     SmallSums (record { index = 2; lines = 240; bandwidth = 2; pair = 7 }) (record { index = 4; lines = 400; bandwidth = 3; pair = 8 })
-unfolding product expanded reduced lowered words wordLength rateOf headOf pairOf recordBytes entriesBytes big
+unfolding product expanded reduced lowered words wordLength rateOf headOf pairOf recordBytes entriesBytes endBytes big
 small-sums = record {
   products = (refl, refl);
   polynomials = generators;

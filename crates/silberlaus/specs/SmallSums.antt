@@ -15,6 +15,7 @@ use Rattle.frame_pair.specs.declared.Last.{Last}
 use Rattle.frame_coder.specs.declared.Coder.{Coder}
 use Rattle.frame_settings.specs.declared.Setting.{Setting}
 use Rattle.frame_settings.specs.declared.Rate.the-variants as rate
+use Rattle.record_forms.specs.declared.Form.the-variants as form
 use Rattle.record_bytes.specs.Layout.{recordBytes}
 
 -- a value of n bits, all of them set
@@ -56,5 +57,5 @@ pub record SmallSums (at24 at48 : Setting) : Type 0 where
   pub past-400 : (s : List ℕ) (b : ℕ) → b ≤ 4 → readBits s 0 3 ≡ value b 3 → readBits s 3 8 ≡ value 200 11 → headOf s at48 ≡ cause 2
   -- "at 24 kHz bandwidth 3 is cause 1"
   pub bandwidth : (s : List ℕ) → readBits s 0 2 ≡ value 3 2 → headOf s at24 ≡ cause 1
-  -- "an empty record is four zero bytes"
-  pub empty : recordBytes [] ≡ 0 ∷ 0 ∷ 0 ∷ 0 ∷ []
+  -- "an empty record is four zero bytes", in form 1
+  pub empty : recordBytes form.One [] ≡ 0 ∷ 0 ∷ 0 ∷ 0 ∷ []

@@ -39,6 +39,7 @@ pub extern "C" fn silberlaus_read_frame(
 // The frame of a record's entry read, or refused with 1, 2, 7 or 5.
 #[no_mangle]
 pub extern "C" fn silberlaus_read_entry(
+    form: u32,
     bytes: &[u8],
     place: usize,
     khz: u32,
@@ -47,10 +48,10 @@ pub extern "C" fn silberlaus_read_entry(
 ) -> SilberlausFrame
     ensures { λ r. ⌜
         Answers (frameGiven r)
-        (judgedEntry khz (now (bytes .entry)) place (length (now (spectrum .entry))) (length (now (residual .entry))))
+        (judgedEntry form khz (now (bytes .entry)) place (length (now (spectrum .entry))) (length (now (residual .entry))))
         (now (spectrum .entry)) (now (spectrum .exit)) (now (residual .entry)) (now (residual .exit))
         ⌝ }
     ensures { λ r. ⌜ Bounded (frameGiven r) (now (spectrum .exit)) ⌝ }
 {
-    silberlaus_entries::read_entry(bytes, place, khz, spectrum, residual)
+    silberlaus_entries::read_entry(form, bytes, place, khz, spectrum, residual)
 }

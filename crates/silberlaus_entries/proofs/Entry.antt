@@ -15,100 +15,128 @@ use Rattle.frame.specs.Frame.{judgedAt, judgedOf, frameOf}
 use Rattle.frame_settings.specs.declared.Setting.{Setting}
 use Rattle.frame_settings.specs.declared.Rate.{Rate}
 use Rattle.frame_settings.specs.declared.Rate.the-variants as rate
+use Rattle.record_forms.specs.declared.Form.{Form}
+use Rattle.record_forms.specs.declared.Which.the-variants as which
+use Rattle.record_forms.specs.Forms.{whichForm}
 use Rattle.record_bytes.specs.Layout.{RecordEntry}
 use Rattle.record_bytes.specs.Reading.{readRecord}
-use Rattle.record.specs.Answers.{frameAt, entryOf, entryAnswer, framePart}
+use Rattle.record_answers.specs.Answers.{EntryAnswer}
+use Rattle.record.specs.Answers.{frameAt, frameIn, framePart, entryOf, entryIn}
 use Rattle.record.specs.Answers as part
 use Rattle.record_bytes.proofs.Numbers.{Bytes}
-use Rattle.record.proofs.Answered.{frame-sized, frame-past, frame-missing}
+use Rattle.record.proofs.Answered.{frame-in, entry-in, frame-sized, frame-past, frame-missing}
 use Rattle.silberlaus_entries.specs.Entries.{judgedPlace, judgedIn, judgedEntry, missing}
 
--- ---- the rate and the two buffers
+-- a number that names no form is refused before all else
+pub no-form : (form khz : ℕ) (s : List ℕ) (place x b : ℕ) → whichForm form ≡ which.NoForm → judgedEntry form khz s place x b ≡ refused 1 0
+unfolding judgedEntry
+no-form form khz s place x b e = rw e refl
 
-other-spectrum-in : (o : Rate) (s : List ℕ) (place x b : ℕ) → (linesAt o ≡ 0 → ⊥) → (x ≡ linesAt o → ⊥)
-    → judgedIn o s place x b ≡ refused 2 0
-other-spectrum-in rate.Unknown s place x b h k = absurd (h refl)
-other-spectrum-in (rate.Known r) s place x b h k = simp (ne-eqb x (r .lines) k)
+module _ (f : Form) where
+  -- ---- the rate and the two buffers
 
-other-residual-in : (o : Rate) (s : List ℕ) (place x b : ℕ) → (linesAt o ≡ 0 → ⊥) → (b ≡ linesAt o → ⊥)
-    → judgedIn o s place x b ≡ refused 2 0
-other-residual-in rate.Unknown s place x b h k = absurd (h refl)
-other-residual-in (rate.Known r) s place x b h k = simp (ne-eqb b (r .lines) k, and-false)
+  other-spectrum-in : (o : Rate) (s : List ℕ) (place x b : ℕ) → (linesAt o ≡ 0 → ⊥) → (x ≡ linesAt o → ⊥)
+      → judgedIn o f s place x b ≡ refused 2 0
+  other-spectrum-in rate.Unknown s place x b h k = absurd (h refl)
+  other-spectrum-in (rate.Known r) s place x b h k = simp (ne-eqb x (r .lines) k)
 
--- ---- the record and the place
+  other-residual-in : (o : Rate) (s : List ℕ) (place x b : ℕ) → (linesAt o ≡ 0 → ⊥) → (b ≡ linesAt o → ⊥)
+      → judgedIn o f s place x b ≡ refused 2 0
+  other-residual-in rate.Unknown s place x b h k = absurd (h refl)
+  other-residual-in (rate.Known r) s place x b h k = simp (ne-eqb b (r .lines) k, and-false)
 
-no-place : (s : List ℕ) (place : ℕ) → Bytes s → (r : Setting) (o : Option (List RecordEntry)) → readRecord s ≡ o
-    → length (part.frameOf o place) ≡ 0
-    → judgedPlace r o place ≡ refused (entryOf o place .number) 0
-no-place s place b r none q z = refl
-no-place s place b r (some es) q z = go (ltb place (length es)) refl
-  where
-    go : (x : Bool) → ltb place (length es) ≡ x → cond x (judgedRead (frameOf (frameAt es place) r)) (refused 1 0) ≡ refused (cond x 0 1) 0
-    go true t = let f = frame-sized s es place b q (ltb-true place (length es) t) in absurd (omega (arith, f .0, z))
-    go false t = refl
+  -- ---- the record and the place
 
--- the record and the place are refused by numbers of their own
-never-five : (o : Option (List RecordEntry)) (place : ℕ) → entryOf o place .number ≡ 5 → ⊥
-never-five none place e = omega arith
-never-five (some es) place e = go (ltb place (length es)) e
-  where
-    go : (x : Bool) → _≡_ {A = ℕ} (cond x 0 1) 5 → ⊥
-    go true e = omega arith
-    go false e = omega arith
+  no-place : (s : List ℕ) (place : ℕ) → Bytes s → (r : Setting) (o : Option (List RecordEntry)) → readRecord f s ≡ o
+      → length (part.frameOf o place) ≡ 0
+      → judgedPlace r o place ≡ refused (entryOf f o place .number) 0
+  no-place s place b r none q z = refl
+  no-place s place b r (some es) q z = go (ltb place (length es)) refl
+    where
+      go : (x : Bool) → ltb place (length es) ≡ x
+          → cond x (judgedRead (frameOf (frameAt es place) r)) (refused 1 0) ≡ refused (cond x 0 1) 0
+      go true t = let k = frame-sized f s es place b q (ltb-true place (length es) t) in absurd (omega (arith, k .0, z))
+      go false t = refl
 
-at-place : (s : List ℕ) (place : ℕ) → Bytes s → (r : Setting) (x : ℕ) → x ≡ r .lines → (y : ℕ) → y ≡ r .lines
-    → (o : Option (List RecordEntry)) → readRecord s ≡ o → (length (part.frameOf o place) ≡ 0 → ⊥)
-    → judgedAt (rate.Known r) (part.frameOf o place) x y ≡ judgedPlace r o place
-at-place s place b r x e y f none q z = absurd (z refl)
-at-place s place b r x e y f (some es) q z = go (ltb place (length es)) refl
-  where
-    go : (k : Bool) → ltb place (length es) ≡ k
-        → judgedAt (rate.Known r) (frameAt es place) x y ≡ cond k (judgedRead (frameOf (frameAt es place) r)) (refused 1 0)
-    go true t =
-        let n : ℕ = length (frameAt es place) in
-        let h = frame-sized s es place b q (ltb-true place (length es) t) in
-        simp (le-leb 20 n (h .0), le-leb n 400 (h .1), eq-eqb x (r .lines) e, eq-eqb y (r .lines) f)
-    go false t = absurd (z (sym (ap length (frame-past es place (ltb-false place (length es) t)))))
+  -- the record and the place are refused by numbers of their own
+  never-five : (o : Option (List RecordEntry)) (place : ℕ) → entryOf f o place .number ≡ 5 → ⊥
+  never-five none place e = omega arith
+  never-five (some es) place e = go (ltb place (length es)) e
+    where
+      go : (x : Bool) → _≡_ {A = ℕ} (cond x 0 1) 5 → ⊥
+      go true e = omega arith
+      go false e = omega arith
 
-empty-in : (o : Rate) (s : List ℕ) (place x b : ℕ) → Bytes s → (linesAt o ≡ 0 → ⊥) → x ≡ linesAt o → b ≡ linesAt o
-    → length (part.frameOf (readRecord s) place) ≡ 0 → judgedIn o s place x b ≡ refused (entryOf (readRecord s) place .number) 0
-empty-in rate.Unknown s place x b i h e f z = absurd (h refl)
-empty-in (rate.Known r) s place x b i h e f z = simp (eq-eqb x (r .lines) e, eq-eqb b (r .lines) f)
-    (no-place s place i r (readRecord s) refl z)
+  at-place : (s : List ℕ) (place : ℕ) → Bytes s → (r : Setting) (x : ℕ) → x ≡ r .lines → (y : ℕ) → y ≡ r .lines
+      → (o : Option (List RecordEntry)) → readRecord f s ≡ o → (length (part.frameOf o place) ≡ 0 → ⊥)
+      → judgedAt (rate.Known r) (part.frameOf o place) x y ≡ judgedPlace r o place
+  at-place s place b r x e y g none q z = absurd (z refl)
+  at-place s place b r x e y g (some es) q z = go (ltb place (length es)) refl
+    where
+      go : (k : Bool) → ltb place (length es) ≡ k
+          → judgedAt (rate.Known r) (frameAt es place) x y ≡ cond k (judgedRead (frameOf (frameAt es place) r)) (refused 1 0)
+      go true t =
+          let n : ℕ = length (frameAt es place) in
+          let h = frame-sized f s es place b q (ltb-true place (length es) t) in
+          simp (le-leb 20 n (h .0), le-leb n 400 (h .1), eq-eqb x (r .lines) e, eq-eqb y (r .lines) g)
+      go false t = absurd (z (sym (ap length (frame-past f es place (ltb-false place (length es) t)))))
 
-part-in : (o : Rate) (s : List ℕ) (place x b : ℕ) → Bytes s → (linesAt o ≡ 0 → ⊥) → x ≡ linesAt o → b ≡ linesAt o
-    → (length (part.frameOf (readRecord s) place) ≡ 0 → ⊥) → judgedAt o (part.frameOf (readRecord s) place) x b ≡ judgedIn o s place x b
-part-in rate.Unknown s place x b i h e f z = absurd (h refl)
-part-in (rate.Known r) s place x b i h e f z =
-    at-place s place i r x e b f (readRecord s) refl z ∙ sym (simp (eq-eqb x (r .lines) e, eq-eqb b (r .lines) f))
+  empty-in : (o : Rate) (s : List ℕ) (place x b : ℕ) → Bytes s → (linesAt o ≡ 0 → ⊥) → x ≡ linesAt o → b ≡ linesAt o
+      → length (frameIn f s place) ≡ 0 → judgedIn o f s place x b ≡ refused (entryIn f s place .number) 0
+  unfolding frameIn entryIn
+  empty-in rate.Unknown s place x b i h e g z = absurd (h refl)
+  empty-in (rate.Known r) s place x b i h e g z = simp (eq-eqb x (r .lines) e, eq-eqb b (r .lines) g)
+      (no-place s place i r (readRecord f s) refl z)
 
--- ---- the cases of reading an entry, in the order of the tests
+  part-in : (o : Rate) (s : List ℕ) (place x b : ℕ) → Bytes s → (linesAt o ≡ 0 → ⊥) → x ≡ linesAt o → b ≡ linesAt o
+      → (length (frameIn f s place) ≡ 0 → ⊥) → judgedAt o (frameIn f s place) x b ≡ judgedIn o f s place x b
+  unfolding frameIn
+  part-in rate.Unknown s place x b i h e g z = absurd (h refl)
+  part-in (rate.Known r) s place x b i h e g z =
+      at-place s place i r x e b g (readRecord f s) refl z ∙ sym (simp (eq-eqb x (r .lines) e, eq-eqb b (r .lines) g))
 
-module _ (khz : ℕ) (s : List ℕ) (place x b : ℕ) where
-  pub no-rate : lineCount khz ≡ 0 → judgedEntry khz s place x b ≡ refused 1 0
-  unfolding lineCount judgedEntry
-  no-rate z = ap (λ (o : Rate). judgedIn o s place x b) (rate-unknown khz z)
+  entry-never-five : (s : List ℕ) (place : ℕ) → entryIn f s place .number ≡ 5 → ⊥
+  unfolding entryIn
+  entry-never-five s = never-five (readRecord f s)
 
-  pub other-spectrum : (lineCount khz ≡ 0 → ⊥) → (x ≡ lineCount khz → ⊥) → judgedEntry khz s place x b ≡ refused 2 0
-  unfolding lineCount judgedEntry
-  other-spectrum h k = other-spectrum-in (rateOf khz) s place x b h k
+-- ---- the cases of reading an entry in a form that there is, in the order of the tests
 
-  pub other-residual : (lineCount khz ≡ 0 → ⊥) → (b ≡ lineCount khz → ⊥) → judgedEntry khz s place x b ≡ refused 2 0
-  unfolding lineCount judgedEntry
-  other-residual h k = other-residual-in (rateOf khz) s place x b h k
+module _ (form : ℕ) (f : Form) (is : whichForm form ≡ which.Is f) (khz : ℕ) (s : List ℕ) (place x b : ℕ) where
+  judged : judgedEntry form khz s place x b ≡ judgedIn (rateOf khz) f s place x b
+  unfolding judgedEntry
+  judged = rw is refl
 
-  pub no-frame : Bytes s → (lineCount khz ≡ 0 → ⊥) → x ≡ lineCount khz → b ≡ lineCount khz → (p : List ℕ) → p ≡ framePart s place
+  pub no-rate : lineCount khz ≡ 0 → judgedEntry form khz s place x b ≡ refused 1 0
+  unfolding lineCount
+  no-rate z = judged ∙ ap (λ (o : Rate). judgedIn o f s place x b) (rate-unknown khz z)
+
+  pub other-spectrum : (lineCount khz ≡ 0 → ⊥) → (x ≡ lineCount khz → ⊥) → judgedEntry form khz s place x b ≡ refused 2 0
+  unfolding lineCount
+  other-spectrum h k = judged ∙ other-spectrum-in f (rateOf khz) s place x b h k
+
+  pub other-residual : (lineCount khz ≡ 0 → ⊥) → (b ≡ lineCount khz → ⊥) → judgedEntry form khz s place x b ≡ refused 2 0
+  unfolding lineCount
+  other-residual h k = judged ∙ other-residual-in f (rateOf khz) s place x b h k
+
+  pub no-frame : Bytes s → (lineCount khz ≡ 0 → ⊥) → x ≡ lineCount khz → b ≡ lineCount khz → (p : List ℕ) → p ≡ framePart form s place
       → length p ≡ 0
-      → (judgedEntry khz s place x b ≡ refused (missing s place) 0) × (1 ≤ missing s place) × (missing s place ≡ 5 → ⊥)
-  unfolding lineCount judgedEntry entryAnswer framePart
-  no-frame i h e f p q z =
-      let y : length (part.frameOf (readRecord s) place) ≡ 0 = sym (ap length q) ∙ z in
-      (empty-in (rateOf khz) s place x b i h e f y, frame-missing s place i y, never-five (readRecord s) place)
+      → (judgedEntry form khz s place x b ≡ refused (missing form s place) 0) × (1 ≤ missing form s place) × (missing form s place ≡ 5 → ⊥)
+  unfolding lineCount
+  no-frame i h e g p q z =
+      let y : length (framePart form s place) ≡ 0 = sym (ap length q) ∙ z in
+      let m : entryIn f s place .number ≡ missing form s place = ap (λ (a : EntryAnswer). a .number) (entry-in form f is s place) in (
+        judged ∙ empty-in f (rateOf khz) s place x b i h e g (ap length (frame-in form f is s place) ∙ y)
+            ∙ ap (λ (n : ℕ). refused n 0) m,
+        frame-missing form s place i y,
+        λ w. entry-never-five f s place (m ∙ w),
+      )
 
   -- an entry's frame is read as it stands in the record
-  pub part-read : Bytes s → (lineCount khz ≡ 0 → ⊥) → x ≡ lineCount khz → b ≡ lineCount khz → (p : List ℕ) → p ≡ framePart s place
+  pub part-read : Bytes s → (lineCount khz ≡ 0 → ⊥) → x ≡ lineCount khz → b ≡ lineCount khz → (p : List ℕ) → p ≡ framePart form s place
       → (length p ≡ 0 → ⊥)
-      → judgedOf khz p x b ≡ judgedEntry khz s place x b
-  unfolding lineCount judgedEntry judgedOf framePart
-  part-read i h e f p q z =
-      ap (λ (l : List ℕ). judgedAt (rateOf khz) l x b) q ∙ part-in (rateOf khz) s place x b i h e f (λ y. z (ap length q ∙ y))
+      → judgedOf khz p x b ≡ judgedEntry form khz s place x b
+  unfolding lineCount judgedOf
+  part-read i h e g p q z =
+      let o : p ≡ frameIn f s place = q ∙ sym (frame-in form f is s place) in
+      ap (λ (l : List ℕ). judgedAt (rateOf khz) l x b) o ∙ part-in f (rateOf khz) s place x b i h e g (λ y. z (ap length o ∙ y))
+      ∙ sym judged

@@ -11,9 +11,11 @@ use Rattle.frame.specs.Frame.{frameOf}
 use Rattle.frame_settings.specs.declared.Setting.{Setting}
 use Rattle.frame_settings.specs.declared.Rate.{Rate}
 use Rattle.frame_settings.specs.declared.Rate.the-variants as rate
+use Rattle.record_forms.specs.declared.Form.{Form}
+use Rattle.record_forms.specs.Forms.{whichForm}
 use Rattle.record_bytes.specs.Layout.{RecordEntry}
 use Rattle.record_bytes.specs.Reading.{readRecord}
-use Rattle.record.specs.Answers.{frameAt, entryAnswer}
+use Rattle.record.specs.Answers.{inForm, frameAt, entryAnswer}
 
 -- the record 7, the place 1, then the frame's 5
 abbrev pub judgedPlace : Setting → Option (List RecordEntry) → ℕ → Judged
@@ -21,14 +23,14 @@ judgedPlace r none place = refused 7 0
 judgedPlace r (some es) place = cond (ltb place (length es)) (judgedRead (frameOf (frameAt es place) r)) (refused 1 0)
 
 -- the rate 1, the two buffers 2
-abbrev pub judgedIn : Rate → List ℕ → ℕ → ℕ → ℕ → Judged
-judgedIn rate.Unknown s place x b = refused 1 0
-judgedIn (rate.Known r) s place x b = cond (eqb x (r .lines) && eqb b (r .lines)) (judgedPlace r (readRecord s) place) (refused 2 0)
+abbrev pub judgedIn : Rate → Form → List ℕ → ℕ → ℕ → ℕ → Judged
+judgedIn rate.Unknown f s place x b = refused 1 0
+judgedIn (rate.Known r) f s place x b = cond (eqb x (r .lines) && eqb b (r .lines)) (judgedPlace r (readRecord f s) place) (refused 2 0)
 
--- of a rate, a record and a place, and the lengths of the two lent buffers
-unfoldable pub judgedEntry : ℕ → List ℕ → ℕ → ℕ → ℕ → Judged
-judgedEntry khz s place x b = judgedIn (rateOf khz) s place x b
+-- of a form, which is a 1 before all else, a rate, a record and a place, and the lengths of the two lent buffers
+unfoldable pub judgedEntry : ℕ → ℕ → List ℕ → ℕ → ℕ → ℕ → Judged
+judgedEntry form khz s place x b = inForm (whichForm form) (refused 1 0) (λ f. judgedIn (rateOf khz) f s place x b)
 
 -- the record's own number for a place
-abbrev pub missing : List ℕ → ℕ → ℕ
-missing s place = entryAnswer s place .number
+abbrev pub missing : ℕ → List ℕ → ℕ → ℕ
+missing form s place = entryAnswer form s place .number

@@ -13,4 +13,7 @@ addedGiven r = record { number = r .number; value = r .used }
 
 abbrev pub entryGiven : SilberlausEntry → EntryAnswer
 entryGiven r =
-    record { number = r .number; entry = record { start = r .start; length = r .length; request = r .request; count = r .count } }
+    record {
+      number = r .number;
+      entry = record { start = r .start; length = r .length; request = r .request; count = r .count; bits = r .bits };
+    }

@@ -1,7 +1,8 @@
-// The session record with document 01's numbers and C's structs in place of the enum answers: new, entries, entry and add. It stands over
-// `record`.
+// The session record in both forms with document 01's numbers and C's structs in place of the enum answers: new, entries, entry and add.
+// It stands over `record`.
 // Inner: `silberlaus` stands over it. It asks nothing.
 ghost use mathlib.Core.Path.{_≡_};
+ghost use Rattle.record_forms.specs.declared.Form.the-variants.{Two};
 ghost use Rattle.record.specs.Answers.{newNumber, newBuffer, entriesAnswer, entryAnswer, asked, addAnswer, addBuffer};
 ghost use Rattle.record.specs.Meaning.{CountMeans, StoredBy};
 ghost use Rattle.silberlaus_records.specs.Records.{entriesGiven, entryGiven, addedGiven};
@@ -23,6 +24,7 @@ pub struct SilberlausEntry {
     pub request: u8,
     pub count: u8,
     pub length: u16,
+    pub bits: u16,
     pub start: u32,
 }
 
@@ -33,58 +35,66 @@ pub struct SilberlausAdded {
     pub used: u32,
 }
 
-// A record of no entries at the start of the buffer, or 6.
-pub fn new(buffer: &mut [u8]) -> u8
-    ensures { λ r. ⌜ r ≡ newNumber (now (buffer .entry)) ⌝ }
-    ensures { λ r. ⌜ now (buffer .exit) ≡ newBuffer (now (buffer .entry)) ⌝ }
+// A record of no entries at the start of the buffer, or 1 for a form that there is not, or 6.
+pub fn new(form: u32, buffer: &mut [u8]) -> u8
+    ensures { λ r. ⌜ r ≡ newNumber form (now (buffer .entry)) ⌝ }
+    ensures { λ r. ⌜ now (buffer .exit) ≡ newBuffer form (now (buffer .entry)) ⌝ }
 {
-    record::new(buffer).number()
+    record::new(form, buffer).number()
 }
 
-// The number of a record's entries, or 7.
-pub fn entries(bytes: &[u8]) -> SilberlausEntries
-    ensures { λ r. ⌜ entriesGiven r ≡ entriesAnswer (now (bytes .entry)) ⌝ }
-    ensures { λ r. ⌜ CountMeans (entriesGiven r) (now (bytes .entry)) ⌝ }
+// A refusal: its number, and no entries.
+fn no_entries(number: u8) -> SilberlausEntries
+    ensures { λ r. ⌜ r ≡ record { number = number; entries = 0 } ⌝ }
 {
-    let counted = record::entries(bytes);
+    SilberlausEntries { number, entries: 0 }
+}
+
+// The number of a record's entries, or 1 for a form that there is not, or 7.
+pub fn entries(form: u32, bytes: &[u8]) -> SilberlausEntries
+    ensures { λ r. ⌜ entriesGiven r ≡ entriesAnswer form (now (bytes .entry)) ⌝ }
+    ensures { λ r. ⌜ CountMeans form (entriesGiven r) (now (bytes .entry)) ⌝ }
+{
+    let counted = record::entries(form, bytes);
     match counted {
         Counted::Entries(n) => SilberlausEntries {
             number: 0,
             entries: n,
         },
-        Counted::NotRecord => SilberlausEntries {
-            number: 7,
-            entries: 0,
-        },
+        Counted::NoForm => no_entries(1),
+        Counted::NotRecord => no_entries(7),
     }
 }
 
 // A refusal: its number, and zero in every other field.
 fn no_entry(number: u8) -> SilberlausEntry
-    ensures { λ r. ⌜ r ≡ record { number = number; request = 0; count = 0; length = 0; start = 0 } ⌝ }
+    ensures { λ r. ⌜ r ≡ record { number = number; request = 0; count = 0; length = 0; bits = 0; start = 0 } ⌝ }
 {
     SilberlausEntry {
         number,
         request: 0,
         count: 0,
         length: 0,
+        bits: 0,
         start: 0,
     }
 }
 
-// An entry's fields, or 7, or 1 for a place that it has not.
-pub fn entry(bytes: &[u8], place: usize) -> SilberlausEntry
-    ensures { λ r. ⌜ entryGiven r ≡ entryAnswer (now (bytes .entry)) place ⌝ }
+// An entry's fields, or 1 for a form that there is not, or 7, or 1 for a place that it has not.
+pub fn entry(form: u32, bytes: &[u8], place: usize) -> SilberlausEntry
+    ensures { λ r. ⌜ entryGiven r ≡ entryAnswer form (now (bytes .entry)) place ⌝ }
 {
-    let found = record::entry(bytes, place);
+    let found = record::entry(form, bytes, place);
     match found {
         Found::At(e) => SilberlausEntry {
             number: 0,
             request: e.request,
             count: e.count,
             length: e.length,
+            bits: e.bits,
             start: e.start,
         },
+        Found::NoForm => no_entry(1),
         Found::NotRecord => no_entry(7),
         Found::NoPlace => no_entry(1),
     }
@@ -97,20 +107,25 @@ fn not_added(number: u8) -> SilberlausAdded
     SilberlausAdded { number, used: 0 }
 }
 
-// An entry added and the new used length, or 1, 7 or 6.
+// An entry added to a record of form 2 and the new used length, or 1, 7 or 6.
 pub fn add(
     buffer: &mut [u8],
     used: usize,
     frame: &[u8],
     request: u32,
     count: u32,
+    bits: u32,
     length: u32,
 ) -> SilberlausAdded
-    ensures { λ r. ⌜ addedGiven r ≡ addAnswer (now (buffer .entry)) used (asked (now (frame .entry)) request count) length ⌝ }
-    ensures { λ r. ⌜ now (buffer .exit) ≡ addBuffer (now (buffer .entry)) used (asked (now (frame .entry)) request count) length ⌝ }
-    ensures { λ r. ⌜ StoredBy (addedGiven r) (now (buffer .entry)) (now (buffer .exit)) used (asked (now (frame .entry)) request count) ⌝ }
+    ensures { λ r. ⌜ addedGiven r ≡ addAnswer Two (now (buffer .entry)) used (asked (now (frame .entry)) request count bits) length ⌝ }
+    ensures { λ r. ⌜
+        now (buffer .exit) ≡ addBuffer Two (now (buffer .entry)) used (asked (now (frame .entry)) request count bits) length
+        ⌝ }
+    ensures { λ r. ⌜
+        StoredBy Two (addedGiven r) (now (buffer .entry)) (now (buffer .exit)) used (asked (now (frame .entry)) request count bits)
+        ⌝ }
 {
-    let added = record::add(buffer, used, frame, request, count, length);
+    let added = record::add(buffer, used, frame, request, count, bits, length);
     match added {
         Added::Used(n) => SilberlausAdded { number: 0, used: n },
         Added::BadSetting => not_added(1),

@@ -4,7 +4,7 @@
 
 use std::mem::{align_of, offset_of, size_of};
 
-use super::{Added, Entries, Entry, Frame, Unprotected, protect, record_add, record_new};
+use super::{Added, Entries, Entry, Frame, Unprotected, protect, record_add, record_new, record_to_form_1};
 
 #[repr(C)]
 struct Registers {
@@ -27,12 +27,25 @@ unsafe extern "C" {
         m: usize,
     ) -> *mut u8;
     #[link_name = "silberlaus_record_entries"]
-    fn raw_entries(record: *const u8, used: usize) -> Registers;
+    fn raw_entries(form: u32, record: *const u8, used: usize) -> Registers;
     #[link_name = "silberlaus_record_entry"]
-    fn raw_entry(record: *const u8, used: usize, place: usize) -> Registers;
+    fn raw_entry(form: u32, record: *const u8, used: usize, place: usize) -> Registers;
     #[link_name = "silberlaus_record_add"]
-    fn raw_add(buffer: *mut u8, n: usize, used: usize, frame: *const u8, m: usize, q: u32, c: u32, l: u32)
-    -> Registers;
+    fn raw_add(
+        buffer: *mut u8,
+        n: usize,
+        used: usize,
+        frame: *const u8,
+        m: usize,
+        request: u32,
+        count: u32,
+        bits: u32,
+        length: u32,
+    ) -> Registers;
+    #[link_name = "silberlaus_record_to_form_1"]
+    fn raw_to_form_1(record: *const u8, used: usize, out: *mut u8, n: usize) -> Registers;
+    #[link_name = "silberlaus_record_to_form_2"]
+    fn raw_to_form_2(record: *const u8, used: usize, out: *mut u8, n: usize) -> Registers;
 }
 
 /// The library's bytes at a field's place are the value that the library must have given it.
@@ -58,15 +71,28 @@ fn damaged_slot() -> [u8; 400] {
     slot
 }
 
-/// A record of 162 entries of 400 bytes, the last one's request 2 and count 161; and its length.
+/// Entries of 400 bytes, each with request 2, count 161 and bits that take two bytes; as many as a record of form 2 has
+/// room for.
+const LONG_ENTRIES: u64 = 161;
+const BITS: u32 = 0x203;
+
+/// The record of these in form 2, and its length.
 fn long_record() -> (Vec<u8>, usize) {
     let mut buffer = vec![0; 65536];
-    assert_eq!(record_new(&mut buffer), 0);
-    let mut used = 4;
-    for _ in 0..162 {
-        used = record_add(&mut buffer, used, &[1; 400], 2, 161).used as usize;
+    assert_eq!(record_new(2, &mut buffer), 0);
+    let mut used = 5;
+    for _ in 0..LONG_ENTRIES {
+        used = record_add(&mut buffer, used, &[1; 400], 2, 161, BITS).used as usize;
     }
     (buffer, used)
+}
+
+/// The same in form 1.
+fn long_record_1() -> (Vec<u8>, usize) {
+    let (record, used) = long_record();
+    let mut out = vec![0; 65536];
+    let moved = record_to_form_1(&record[..used], &mut out).used as usize;
+    (out, moved)
 }
 
 #[test]
@@ -98,42 +124,75 @@ fn unprotected() {
 #[test]
 fn added() {
     let mut buffer = vec![0; 66000];
-    assert_eq!(record_new(&mut buffer), 0);
-    let (mut used, frame) = (4, [1; 400]);
-    for _ in 0..162 {
+    assert_eq!(record_new(2, &mut buffer), 0);
+    let (mut used, frame) = (5, [1; 400]);
+    for _ in 0..LONG_ENTRIES {
         // SAFETY: both slices are good for their lengths, and the struct comes back in registers.
-        let r = unsafe { raw_add(buffer.as_mut_ptr(), 66000, used, frame.as_ptr(), 400, 2, 161, 400) };
-        used += 404;
+        let r = unsafe { raw_add(buffer.as_mut_ptr(), 66000, used, frame.as_ptr(), 400, 2, 161, BITS, 400) };
+        used += 406;
         field(&r, offset_of!(Added, number), 1, 0);
         field(&r, offset_of!(Added, used), 4, used as u64);
     }
     // SAFETY: as above; there is no room for one more.
-    let r = unsafe { raw_add(buffer.as_mut_ptr(), 66000, used, frame.as_ptr(), 400, 2, 161, 400) };
+    let r = unsafe { raw_add(buffer.as_mut_ptr(), 66000, used, frame.as_ptr(), 400, 2, 161, BITS, 400) };
     field(&r, offset_of!(Added, number), 1, 6);
     field(&r, offset_of!(Added, used), 4, 0);
 }
 
 #[test]
+fn moved() {
+    let ((record, used), (record_1, used_1), mut out) = (long_record(), long_record_1(), vec![0; 65536]);
+    // SAFETY: each slice is good for its length, and the struct comes back in registers.
+    let answers = unsafe {
+        [
+            (raw_to_form_1(record.as_ptr(), used, out.as_mut_ptr(), 65536), 0, used_1),
+            (raw_to_form_2(record_1.as_ptr(), used_1, out.as_mut_ptr(), 65536), 0, used),
+            (raw_to_form_1(record.as_ptr(), used, out.as_mut_ptr(), used_1 - 1), 6, 0),
+            (raw_to_form_2(record.as_ptr(), used, out.as_mut_ptr(), 65536), 7, 0),
+        ]
+    };
+    assert_eq!((used, used_1), (5 + 161 * 406, 4 + 161 * 404));
+    for (answer, number, used) in answers {
+        field(&answer, offset_of!(Added, number), 1, number);
+        field(&answer, offset_of!(Added, used), 4, used as u64);
+    }
+}
+
+#[test]
 fn entries() {
-    let (record, used) = long_record();
-    // SAFETY: the record is good for `used` bytes, and the struct comes back in registers.
-    let (whole, cut) = unsafe { (raw_entries(record.as_ptr(), used), raw_entries(record.as_ptr(), used - 1)) };
-    field(&whole, offset_of!(Entries, number), 1, 0);
-    field(&whole, offset_of!(Entries, entries), 4, 162);
-    field(&cut, offset_of!(Entries, number), 1, 7);
-    field(&cut, offset_of!(Entries, entries), 4, 0);
+    let ((record, used), (record_1, used_1)) = (long_record(), long_record_1());
+    // SAFETY: each record is good for its length, and the struct comes back in registers.
+    let answers = unsafe {
+        [
+            (raw_entries(2, record.as_ptr(), used), 0, LONG_ENTRIES),
+            (raw_entries(1, record_1.as_ptr(), used_1), 0, LONG_ENTRIES),
+            (raw_entries(2, record.as_ptr(), used - 1), 7, 0),
+            (raw_entries(3, record.as_ptr(), used), 1, 0),
+        ]
+    };
+    for (answer, number, entries) in answers {
+        field(&answer, offset_of!(Entries, number), 1, number);
+        field(&answer, offset_of!(Entries, entries), 4, entries);
+    }
 }
 
 #[test]
 fn entry() {
-    let (record, used) = long_record();
-    // SAFETY: the record is good for `used` bytes, and the struct comes back in registers.
-    let (last, past) = unsafe { (raw_entry(record.as_ptr(), used, 161), raw_entry(record.as_ptr(), used, 162)) };
-    for (answer, number, request, count, length, start) in [(last, 0, 2, 161, 400, 161 * 404), (past, 1, 0, 0, 0, 0)] {
+    let ((record, used), (record_1, used_1)) = (long_record(), long_record_1());
+    // SAFETY: each record is good for its length, and the struct comes back in registers.
+    let answers = unsafe {
+        [
+            (raw_entry(2, record.as_ptr(), used, 160), [0, 2, 161, 400, BITS.into(), 160 * 406]),
+            (raw_entry(1, record_1.as_ptr(), used_1, 160), [0, 2, 161, 400, 65535, 160 * 404]),
+            (raw_entry(2, record.as_ptr(), used, 161), [1, 0, 0, 0, 0, 0]),
+        ]
+    };
+    for (answer, [number, request, count, length, bits, start]) in answers {
         field(&answer, offset_of!(Entry, number), 1, number);
         field(&answer, offset_of!(Entry, request), 1, request);
         field(&answer, offset_of!(Entry, count), 1, count);
         field(&answer, offset_of!(Entry, length), 2, length);
+        field(&answer, offset_of!(Entry, bits), 2, bits);
         field(&answer, offset_of!(Entry, start), 4, start);
     }
 }

@@ -1,23 +1,24 @@
--- `record::add` meets its contract. `may` and `whole` are what the tests and the walk have shown where bytes are written;
--- the two copies are then one, and the record of the old entries and one more. Assumes nothing.
-use mathlib.Core.Path.{_≡_, refl, sym, ap, _∙_}
+-- `record::add` meets its contract. `may` and `whole` are what the tests and the walk have shown where bytes are written.
+-- Assumes nothing.
+use mathlib.Core.Path.{_≡_, refl, sym, ap, _∙_, subst}
 use mathlib.Core.Bool.{Bool, true, false}
-use mathlib.Core.List.{List}
+use mathlib.Core.List.{List, _++_}
 use Prim.Native.Nat.{ℕ, _+_, _-_, _≤_}
 use native.Mathlib.Omega.{arith}
 use lib.ListN.{length, take}
 use lib.Seq.{length-take-le}
 use denote.Ref.{now}
-use borrow.Author.Needs.{needs}
+use Rattle.record_forms.specs.declared.Form.the-variants as form
 use Rattle.record_bytes.specs.declared.Walked.the-variants as walked
-use Rattle.record.proofs.add.Tie as tie
 use Rattle.record_bytes.specs.Layout.{RecordEntry}
 use Rattle.record_bytes.specs.Reading.{readRecord}
-use Rattle.record.specs.Answers.{mayAdd}
-use Rattle.record_bytes.specs.Steps.{walkOf, put}
+use Rattle.record_answers.specs.Answers.{accepted, refused}
+use Rattle.record.specs.Answers.{mayAdd, hasRoom, addAnswer, addBuffer}
+use Rattle.record_bytes.specs.Steps.{walkOf, put, tailOf}
+use Rattle.record.specs.Meaning.{Stored}
 use Rattle.record_bytes.proofs.Numbers.{Bytes}
 use Rattle.record.proofs.Theorems.{add-stores}
-use Rattle.record.proofs.Answered.{
+use Rattle.record.proofs.Adding.{
   Allowed,
   allowed,
   used-known,
@@ -30,14 +31,16 @@ use Rattle.record.proofs.Answered.{
   add-stored,
   length-tail,
 }
+use borrow.Author.Needs.{needs}
 use Rattle.record.proofs.add.Statement.{statement}
+use Rattle.record.proofs.add.Tie as tie
 
 -- the buffer and the entry of the call
 abbrev lent : tie.Start → List ℕ
 lent s = now (s .args .buffer)
 
 abbrev given : tie.Start → RecordEntry
-given s = record { frame = now (s .args .frame); request = s .args .request; count = s .args .count }
+given s = record { frame = now (s .args .frame); request = s .args .request; count = s .args .count; bits = s .args .bits }
 
 abbrev may-be : tie.Start → Bool
 may-be s = mayAdd (lent s) (s .args .used) (given s) (s .args .length)
@@ -65,127 +68,130 @@ bytes c i = omega (arith, c .before .before .before .slice-known .given i)
 
 -- the used bytes are a record
 whole : (c : tie.After-known-told) → let s = call-of (test-of c) in
-    walkOf (readRecord (take (s .args .used) (lent s))) 0 ≡ walked.Whole (c .before .walked .given .0 .0)
+    walkOf form.Two (readRecord form.Two (take (s .args .used) (lent s))) 0 ≡ walked.Whole (c .before .walked .given .0 .0)
     (c .before .walked .given .0 .1 .0)
 whole c = sym (c .before .before .before .walk .ensures) ∙ c .before .walked .given .1
 
-known : (c : tie.After-known-told) → let s = call-of (test-of c) in (4 ≤ s .args .used) × (c .before .walked .given .0 .0 ≤ s .args .used)
+known : (c : tie.After-known-told) → let s = call-of (test-of c) in (5 ≤ s .args .used) × (c .before .walked .given .0 .0 ≤ s .args .used)
 known c =
     let t = test-of c in
     let s = call-of t in
-    used-known (lent s) (s .args .used) (given s) (s .args .length) (ok t .inside) (bytes t) (c .before .walked .given .0 .0)
+    used-known form.Two (lent s) (s .args .used) (given s) (s .args .length) (ok t .inside) (bytes t) (c .before .walked .given .0 .0)
     (c .before .walked .given .0 .1 .0) (whole c)
 
 slice-reshare-prefix-walk : tie.Need-slice-reshare-prefix-walk
 slice-reshare-prefix-walk c = ok c .inside
 
 slice-aggregate-walk : tie.Need-slice-aggregate-walk
-slice-aggregate-walk c = sym (length-take-le (c .before .before .before .before .before .args .used)
-    (lent (c .before .before .before .before .before)) (ok (c .before) .inside))
+slice-aggregate-walk c = let s = call-of (c .before) in sym (length-take-le (s .args .used) (lent s) (ok (c .before) .inside))
 
 returns : tie.Need-returns
 returns c =
-    let s = c .before .before .before .before .before .before .before .before in
-    let r = add-none (lent s) (s .args .used) (given s) (s .args .length) (may (c .before .before .before .before))
+    let t = c .before .before .before .before in
+    let s = call-of t in
+    let r = add-none form.Two (lent s) (s .args .used) (given s) (s .args .length) (may t)
     (sym (c .before .before .walk .ensures) ∙ c .enum-told .given .1) in
     (r .0, (r .1, refl))
 
 add-end : tie.Need-add-end
 add-end c =
-    let a = ok (c .before .before .before .before .before) in
+    let a = ok (test-of c) in
     omega arith
 
 add-end-2 : tie.Need-add-end-2
 add-end-2 c =
-    let a = ok (c .before .before .before .before .before) in
-    omega arith
+    let a = ok (test-of (c .before)) in
+    omega (arith, c .trailer .ensures)
+
+-- the record has no room for the entry
+full : (c : tie.After-known-told) → let s = call-of (test-of c) in hasRoom form.Two (lent s) (s .args .used) (given s) ≡ false
+    → (refused 6 ≡ addAnswer form.Two (lent s) (s .args .used) (given s) (s .args .length))
+    × (lent s ≡ addBuffer form.Two (lent s) (s .args .used) (given s) (s .args .length))
+full c =
+    let t = test-of c in
+    let s = call-of t in
+    add-full form.Two (lent s) (s .args .used) (given s) (s .args .length) (may t) (bytes t) (c .before .walked .given .0 .0)
+    (c .before .walked .given .0 .1 .0) (whole c)
 
 returns-2 : tie.Need-returns-2
 returns-2 c =
-    let s = c .before .before .before .before .before .before .before .before .before .before in
-    let r = add-full (lent s) (s .args .used) (given s) (s .args .length) (may (c .before .before .before .before .before .before))
-    (bytes (c .before .before .before .before .before .before)) (c .before .before .walked .given .0 .0)
-    (c .before .before .walked .given .0 .1 .0) (whole (c .before))
-    (room-buffer (lent s) (s .args .used) (given s) (s .args .length) (c .if2 .taken)) in
+    let k = c .before .before in
+    let s = call-of (test-of k) in
+    let r = full k (room-buffer form.Two (lent s) (s .args .used) (given s) (s .args .length)
+    (omega (arith, c .before .trailer .ensures))) in
     (r .0, (r .1, refl))
 
 returns-3 : tie.Need-returns-3
 returns-3 c =
-    let s = c .before .before .before .before .before .before .before .before .before .before .before in
-    let r = add-full (lent s) (s .args .used) (given s) (s .args .length) (may (c .before .before .before .before .before .before .before))
-    (bytes (c .before .before .before .before .before .before .before)) (c .before .before .before .walked .given .0 .0)
-    (c .before .before .before .walked .given .0 .1 .0) (whole (c .before .before))
-    (room-most (lent s) (s .args .used) (given s) (s .args .length) (c .if3 .taken)) in
+    let k = c .before .before .before in
+    let s = call-of (test-of k) in
+    let r = full k (room-most form.Two (lent s) (s .args .used) (given s) (s .args .length)
+    (omega (arith, c .before .before .trailer .ensures))) in
     (r .0, (r .1, refl))
-
-sub-at : tie.Need-sub-at
-sub-at c =
-    let k = known (c .before .before) in
-    omega arith
 
 add-tail : tie.Need-add-tail
 add-tail c =
-    let k = known (c .before .before) in
-    let a = ok (c .before .before .before .before .before .before .before) in
+    let k = known (c .before .before .before) in
+    let a = ok (test-of (c .before .before .before)) in
     omega arith
 
 tail-requires : tie.Need-tail-requires
 tail-requires c κs =
-    let a = ok (c .before .before .before .before .before .before .before) in
+    let a = ok (test-of (c .before .before .before)) in
     (omega arith, omega arith)
 
-copy-in-requires-2 : tie.Need-copy-in-requires-2
-copy-in-requires-2 c κs =
-    let s = c .before .before .before .before .before .before .before .before .before .before .before .before .before .before .before
-    .before .before .before in
-    let a = ok (c .before .before .before .before .before .before .before .before .before .before .before .before .before .before) in
-    let k = known (c .before .before .before .before .before .before .before .before .before) in
-    let t : length (c .before .before .before .before .before .before .tail .result) ≡ 8 =
-    ap length (c .before .before .before .before .before .before .tail .ensures) ∙ length-tail _ _ _ _ in
-    omega arith
+sub-put-added : tie.Need-sub-put-added
+sub-put-added c =
+    let k = known (c .before .before .before .before .before .before) in
+    omega (arith, c .end .ensures)
+
+put-added-requires : tie.Need-put-added-requires
+put-added-requires c κs =
+    let e = c .before in
+    let d = e .before .before in
+    let k = known (d .before .before .before .before) in
+    let a = ok (test-of (d .before .before .before .before)) in
+    let x = e .end .ensures in
+    let t = d .before .before .before .trailer .ensures in
+    let l : length (d .tail .result) ≡ 11 = ap length (d .tail .ensures) ∙ length-tail form.Two _ _ _ _ _ in
+    (l, (omega arith, omega arith))
 
 returns-4 : tie.Need-returns-4
 returns-4 c =
-    let s = c .before .before .before .before .before .before .before .before .before .before .before .before .before .before .before
-    .before .before .before .before .before .before in
-    let at = s .args .used - 4 in
+    let e = c .before .before .before .before in
+    let d = e .before .before in
+    let k = d .before .before .before .before in
+    let six = d .before .before .before .trailer in
+    let s = call-of (test-of k) in
+    let used = s .args .used in
     let frame = now (s .args .frame) in
-    let stored = add-stored (lent s) (s .args .used) (given s) (s .args .length)
-    (may (c .before .before .before .before .before .before .before .before .before .before .before .before .before .before .before
-    .before .before)) (bytes (c .before .before .before .before .before .before .before .before .before .before .before .before .before
-    .before .before .before .before)) (c .before .before .before .before .before .before .before .before .before .before .before .before
-    .before .walked .given .0 .0) (c .before .before .before .before .before .before .before .before .before .before .before .before
-    .before .walked .given .0 .1 .0) (whole (c .before .before .before .before .before .before .before .before .before .before .before
-    .before)) (omega arith) (omega arith) in
-    let left =
-    c .before .before .copy-in2 .ensures
-    ∙ ap (λ (b : List ℕ). put b (at + length frame)
-    (c .before .before .before .before .before .before .before .before .before .tail .result))
-    (c .before .before .before .before .before .before .before .copy-in .ensures)
-    ∙ ap (λ (t : List ℕ). put (put (lent s) at frame) (at + length frame) t)
-    (c .before .before .before .before .before .before .before .before .before .tail .ensures)
-    ∙ stored .1 in
-    let kept = add-stores (lent s) (s .args .used) (given s) (s .args .length)
-    (may (c .before .before .before .before .before .before .before .before .before .before .before .before .before .before .before
-    .before .before)) (bytes (c .before .before .before .before .before .before .before .before .before .before .before .before .before
-    .before .before .before .before)) (c .before .before .before .before .before .before .before .before .before .before .before .before
-    .before .walked .given .0 .0) (c .before .before .before .before .before .before .before .before .before .before .before .before
-    .before .walked .given .0 .1 .0) (whole (c .before .before .before .before .before .before .before .before .before .before .before
-    .before)) (room-yes (lent s) (s .args .used) (given s) (s .args .length) (omega arith) (omega arith)) (omega arith) in
-    (stored .0, (left, rw left kept))
+    let n = k .before .walked .given .0 .0 in
+    let v = k .before .walked .given .0 .1 .0 in
+    let room : used + length frame + 6 ≤ length (lent s) = omega (arith, six .ensures) in
+    let small : used + length frame + 6 ≤ 65536 = omega (arith, six .ensures) in
+    let stored = add-stored form.Two (lent s) used (given s) (s .args .length) (may (test-of k)) (bytes (test-of k)) n v (whole k) room
+    small in
+    let kept = add-stores form.Two (lent s) used (given s) (s .args .length) (may (test-of k)) (bytes (test-of k)) n v (whole k)
+    (room-yes form.Two (lent s) used (given s) (s .args .length) room small) small in
+    let next : used + length frame + six .result ≡ used + length frame + 6 = ap (λ (x : ℕ). used + length frame + x) (six .ensures) in
+    let after = c .before .before .put-added .last .0 in
+    let rest : List ℕ = tailOf form.Two (s .args .request) (s .args .count) (s .args .bits) (s .args .length) (n + 1) in
+    let left = c .before .before .put-added .ensures
+    ∙ ap (λ (l : List ℕ). put (lent s) (used - e .end .result) (frame ++ l)) (d .tail .ensures)
+    ∙ ap (λ (x : ℕ). put (lent s) (used - x) (frame ++ rest)) (e .end .ensures) ∙ stored .1 in
+    (ap accepted next ∙ stored .0, (left, subst (λ (x : ℕ). Stored form.Two (lent s) after used x (given s)) (sym next) (rw left kept)))
 
 returns-5 : tie.Need-returns-5
 returns-5 c =
     let s = c .before .before .before .before in
-    let r = add-bad (lent s) (s .args .used) (given s) (s .args .length) (may-not c) in
+    let r = add-bad form.Two (lent s) (s .args .used) (given s) (s .args .length) (may-not c) in
     (r .0, (r .1, refl))
 
 pub add-spec : {M : Type 1} → statement M
 add-spec =
     tie.close
     (tie.spec
-    (λ c κs. search needs) slice-reshare-prefix-walk slice-aggregate-walk (λ c κs. search needs)
-    (λ c. search needs) (λ c. search needs) (λ c. search needs) returns add-end add-end-2 (λ c. search needs)
-    returns-2 (λ c. search needs) returns-3 sub-at add-tail tail-requires (λ c κs. search needs)
-    (λ c. search needs) (λ c. search needs) copy-in-requires-2 (λ c. search needs) (λ c. search needs)
-    returns-4 returns-5)
+    (λ c κs. search needs) slice-reshare-prefix-walk slice-aggregate-walk (λ c κs. search needs) (λ c. search needs)
+    (λ c. search needs) (λ c. search needs) returns add-end (λ c κs. search needs) add-end-2 (λ c. search needs)
+    returns-2 (λ c. search needs) returns-3 add-tail tail-requires (λ c κs. search needs) sub-put-added
+    (λ c. search needs) put-added-requires (λ c. search needs) (λ c. search needs) returns-4 returns-5)

@@ -1,12 +1,12 @@
 -- `record_bytes::end_number` meets its contract. Assumes nothing.
 use mathlib.Core.Path.{refl}
+use Rattle.record_bytes.specs.Layout.{big, endBytes}
 use borrow.Author.Needs.{needs}
-use Rattle.record_bytes.proofs.end_number.Tie as tie
-use Rattle.record_bytes.specs.Layout.{big}
 use Rattle.record_bytes.proofs.end_number.Statement.{statement}
+use Rattle.record_bytes.proofs.end_number.Tie as tie
 
 returns : tie.Need-returns
-unfolding big
+unfolding big endBytes
 returns c = refl
 
 pub end-number-spec : {M : Type 1} → statement M

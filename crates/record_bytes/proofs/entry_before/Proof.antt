@@ -1,54 +1,69 @@
 -- `record_bytes::entry_before` meets its contract: each way out is a law of one step. Assumes nothing.
-use mathlib.Core.Bool.{true, false}
-use mathlib.Core.Path.{_≡_, sym, _∙_}
-use Prim.Native.Nat.{_-_}
+use mathlib.Core.Path.{_≡_, refl, sym, _∙_}
+use Prim.Native.Nat.{ℕ, _+_, _-_}
 use native.Mathlib.Omega.{arith}
 use lib.ListN.{getD}
 use denote.Ref.{now}
-use borrow.Author.Needs.{needs}
-use Rattle.record_bytes.proofs.entry_before.Tie as tie
+use Rattle.record_forms.specs.Forms.{trailerSize}
+use Rattle.record_forms.specs.Ranges.{inRange}
+use Rattle.record_bytes.specs.Reading.{bitsAt}
 use Rattle.record_bytes.proofs.Walking.{step-short, step-far, step-out, step-entry}
-use Rattle.record_bytes.specs.Layout.{inRange}
+use borrow.Author.Needs.{needs}
 use Rattle.record_bytes.proofs.entry_before.Statement.{statement}
+use Rattle.record_bytes.proofs.entry_before.Tie as tie
 
 returns : tie.Need-returns
 returns c =
-    let a = c .before .before .args in
-    sym (step-short (now (a .bytes)) (a .end) (c .if1 .taken))
+    let a = c .before .before .before .args in
+    sym (step-short (a .form) (now (a .bytes)) (a .end) (omega (arith, c .before .trailer .ensures)))
+
+-- from the test of the fields back to the call
+abbrev call : tie.After-in-range → tie.Start
+call c = c .before .before .before .before .before .before .before .before .before .before
+
+-- where the trailer starts
+at : (c : tie.After-in-range) → let a = call c .args in
+    a .end - c .before .before .before .before .before .before .before .before .trailer .result + trailerSize (a .form) ≡ a .end
+at c = omega (arith, c .before .before .before .before .before .before .before .before .trailer .ensures)
+
+fields : {q q′ c c′ b b′ : ℕ} → q ≡ q′ → c ≡ c′ → b ≡ b′ → (n : ℕ) → inRange q c b n ≡ inRange q′ c′ b′ n
+fields x y z n = rw (x, y, z) refl
+
+-- the fields that are tested are those of the bytes
+ranged : (c : tie.After-in-range) → let a = call c .args in
+    let at = a .end - c .before .before .before .before .before .before .before .before .trailer .result in
+    c .in-range .result ≡ inRange (getD (now (a .bytes)) at 0) (getD (now (a .bytes)) (at + 1) 0)
+    (bitsAt (a .form) (now (a .bytes)) (at + 2))
+    (c .before .before .before .number2 .result)
+ranged c = c .in-range .ensures
+    ∙ fields (c .before .before .wide .ensures .0) (c .before .wide2 .ensures .0) (c .before .before .before .before .bits-at .ensures .0) _
 
 returns-2 : tie.Need-returns-2
 returns-2 c =
     let i = c .before .before in
-    let a = i .before .before .before .before .before .before .before .before .args in
-    let n = i .before .before .before .number2 .result in
-    let t : inRange (i .before .before .wide .result) (i .before .wide2 .result) n ≡ true =
-    sym (i .in-range .ensures) ∙ c .before .if2 .taken in
-    let r : inRange (getD (now (a .bytes)) (a .end - 4) 0) (getD (now (a .bytes)) (a .end - 3) 0) n ≡ true =
-    rw (i .before .before .wide .ensures .0, i .before .wide2 .ensures .0) at t in
-    sym (step-entry (now (a .bytes)) (a .end) n (i .before .before .before .number2 .ensures .0) (omega arith) (c .if3 .taken) r)
+    let a = call i .args in
+    rw (i .before .before .before .before .bits-at .ensures .0)
+    (sym (step-entry (a .form) (now (a .bytes)) (a .end) _ (i .before .before .before .number2 .result) (at i)
+    (i .before .before .before .number2 .ensures .0) (omega arith) (omega arith) (sym (ranged i) ∙ c .before .if2 .taken)))
 
 returns-3 : tie.Need-returns-3
 returns-3 c =
     let i = c .before .before in
-    let a = i .before .before .before .before .before .before .before .before .args in
-    sym (step-far (now (a .bytes)) (a .end) (i .before .before .before .number2 .result) (i .before .before .before .number2 .ensures .0)
-    (c .if3 .left))
+    let a = call i .args in
+    sym (step-far (a .form) (now (a .bytes)) (a .end) _ (i .before .before .before .number2 .result) (at i)
+    (i .before .before .before .number2 .ensures .0) (omega arith))
 
 returns-4 : tie.Need-returns-4
 returns-4 c =
     let i = c .before in
-    let a = i .before .before .before .before .before .before .before .before .args in
-    let n = i .before .before .before .number2 .result in
-    let t : inRange (i .before .before .wide .result) (i .before .wide2 .result) n ≡ false = sym (i .in-range .ensures) ∙ c .if2 .left in
-    let r : inRange (getD (now (a .bytes)) (a .end - 4) 0) (getD (now (a .bytes)) (a .end - 3) 0) n ≡ false =
-    rw (i .before .before .wide .ensures .0, i .before .wide2 .ensures .0) at t in
-    sym (step-out (now (a .bytes)) (a .end) n (i .before .before .before .number2 .ensures .0) r)
+    let a = call i .args in
+    sym (step-out (a .form) (now (a .bytes)) (a .end) _ (i .before .before .before .number2 .result) (at i)
+    (i .before .before .before .number2 .ensures .0) (sym (ranged i) ∙ c .if2 .left))
 
 pub entry-before-spec : {M : Type 1} → statement M
 entry-before-spec =
     tie.close
     (tie.spec
-    returns (λ c. search needs) (λ c. search needs) (λ c. search needs) (λ c. search needs)
-    (λ c κs. search needs) (λ c κs. search needs) (λ c κs. search needs) (λ c κs. search needs)
-    (λ c. search needs) (λ c. search needs) (λ c. search needs) (λ c. search needs) (λ c. search needs)
-    returns-2 returns-3 returns-4)
+    (λ c κs. search needs) returns (λ c. search needs) (λ c. search needs) (λ c. search needs) (λ c. search needs)
+    (λ c κs. search needs) (λ c. search needs) (λ c κs. search needs) (λ c κs. search needs) (λ c κs. search needs)
+    (λ c κs. search needs) (λ c. search needs) (λ c. search needs) (λ c. search needs) returns-2 returns-3 returns-4)

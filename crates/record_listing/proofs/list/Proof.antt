@@ -7,11 +7,10 @@ use lib.ListN.{length}
 use denote.Ref.{now}
 use borrow.Author.Needs.{needs}
 use Rattle.record_listing.proofs.list.Tie as tie
-use Rattle.record_listing.proofs.Lines.{list-short, list-placed, listing-long, listing-damaged, listing-record}
-use Rattle.record_listing.proofs.Spelling.{placed-before}
-use Rattle.record_listing.specs.Listing.{field, newline, linesIn, records, damaged, tooLong}
-use Rattle.record_answers.specs.Answers.{accepted, refused, countedAnswer}
-use Rattle.record.specs.Answers.{entriesAnswer}
+use Rattle.record_listing.proofs.Lines.{list-short, list-placed, listing-long, known-record, listing-damaged, listing-record}
+use Rattle.record_bytes.proofs.Putting.{placed-before}
+use Rattle.record_listing.specs.declared.Known.the-variants as known
+use Rattle.record_listing.specs.Listing.{field, newline, linesIn, knownIn, records, damaged, tooLong}
 use Rattle.record_listing.proofs.list.Statement.{statement}
 
 returns : tie.Need-returns
@@ -30,16 +29,17 @@ returns-3 c =
     let s = now (c .before .before .before .before .before .before .before .before .before .before .before .before .args .bytes) in
     let o = now (c .before .before .before .before .before .before .before .before .before .before .before .before .args .out) in
     let p = c .before .before .put-text2 in
-    let none : refused 7 ≡ entriesAnswer s = sym (ap countedAnswer (c .before .before .before .before .before .enum-told .given .1))
-    ∙ c .before .before .before .before .before .before .before .entries .ensures .0 in
+    let none = sym (c .before .before .before .before .before .before .before .either-form .ensures)
+    ∙ c .before .before .before .before .before .enum-told .given .1 in
     list-placed s o (p .last .0) damaged (p .result) (omega arith) (listing-damaged s (omega arith) none) (p .ensures)
 
 put-lines-requires : tie.Need-put-lines-requires
-put-lines-requires c κs = (
-  ap accepted (c .before .wide4 .ensures) ∙ sym (ap countedAnswer (c .before .before .before .counted .given .1))
-      ∙ c .before .before .before .before .before .entries .ensures .0,
-  omega arith,
-)
+put-lines-requires c κs =
+    let e = c .before .before .before .before .before in
+    let v = c .before .before .before .found .given in
+    let s = now (e .before .before .before .before .before .args .bytes) in
+    let r = known-record s (v .0 .0) (v .0 .1 .0) (sym (e .either-form .ensures) ∙ v .1) in
+    (rw (c .before .wide4 .ensures) (r .whole), omega arith)
 
 returns-4 : tie.Need-returns-4
 returns-4 c =
@@ -57,15 +57,16 @@ returns-4 c =
     let p3 = c3 .put-text3 in
     let w = c2 .before .wide42 in
     let n = w .result in
-    let whole : accepted n ≡ entriesAnswer s = ap accepted (w .ensures) ∙ sym (ap countedAnswer (k .counted .given .1))
-    ∙ e .entries .ensures .0 in
+    let f = k .found .given .0 .0 in
+    let whole : knownIn s ≡ known.Record f n =
+    sym (e .either-form .ensures) ∙ k .found .given .1 ∙ ap (known.Record f) (sym (w .ensures)) in
     let all : length o ≤ length o = omega arith in
-    let q2 = placed-before o (p1 .last .1 .1 .0) (p2 .last .0) (p2 .result) (p1 .result) (length o) (field n newline)
-    (linesIn s) all (p1 .ensures .0) (p2 .ensures .0) in
+    let q2 = placed-before o (p1 .last .1 .1 .1 .0) (p2 .last .0) (p2 .result) (p1 .result) (length o) (field n newline)
+    (linesIn f s) all (p1 .ensures .0) (p2 .ensures .0) in
     let q3 = placed-before o (p2 .last .0) (p3 .last .0) (p3 .result) (p2 .result) (length o) records
-    (field n newline ++ linesIn s) all q2 (p3 .ensures) in
-    list-placed s o (p3 .last .0) (records ++ (field n newline ++ linesIn s)) (p3 .result) (u .if1 .left)
-    (listing-record s n (t .if2 .left) whole) q3
+    (field n newline ++ linesIn f s) all q2 (p3 .ensures) in
+    list-placed s o (p3 .last .0) (records ++ (field n newline ++ linesIn f s)) (p3 .result) (u .if1 .left)
+    (listing-record s f n (t .if2 .left) whole) q3
 
 pub list-spec : {M : Type 1} → statement M
 list-spec =

@@ -6,7 +6,8 @@ use lib.ListN.{length, set, length-set}
 use denote.Ref.{now}
 use borrow.Author.Needs.{needs}
 use Rattle.record_listing.proofs.put_field.Tie as tie
-use Rattle.record_listing.proofs.Spelling.{placed-length, field-placed}
+use Rattle.record_listing.proofs.Spelling.{field-placed}
+use Rattle.record_bytes.proofs.Putting.{placed-length}
 use Rattle.record_listing.proofs.put_field.Statement.{statement}
 
 slice-write-out-2 : tie.Need-slice-write-out-2

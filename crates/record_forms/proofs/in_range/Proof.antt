@@ -1,15 +1,18 @@
--- `record_bytes::in_range` meets its contract, arm by arm. Assumes nothing.
+-- `record_forms::in_range` meets its contract, arm by arm. Assumes nothing.
+use mathlib.Core.Path.{_∙_}
 use native.Mathlib.Omega.{arith}
 use borrow.Author.Tests.{le-leb, lt-leb}
-use Rattle.record_bytes.proofs.in_range.Tie as tie
-use Rattle.record_bytes.specs.Layout.{inRange}
-use Rattle.record_bytes.proofs.in_range.Statement.{statement}
+use Rattle.record_forms.specs.Ranges.{inRange}
+use borrow.Author.Needs.{needs}
+use Rattle.record_forms.proofs.in_range.Statement.{statement}
+use Rattle.record_forms.proofs.in_range.Tie as tie
 
 returns : tie.Need-returns
 unfolding inRange
 returns c =
-    let a = c .before .before .before .before .args in
-    simp (
+    let a = c .before .before .before .before .before .args in
+    c .bits-in-range .ensures
+    ∙ simp (
       le-leb (a .request) 3 (omega arith),
       le-leb (a .count) 162 (omega arith),
       le-leb 20 (a .length) (omega arith),
@@ -49,4 +52,4 @@ pub in-range-spec : {M : Type 1} → statement M
 in-range-spec =
     tie.close
     (tie.spec
-    returns returns-2 returns-3 returns-4 returns-5)
+    (λ c κs. search needs) returns returns-2 returns-3 returns-4 returns-5)

@@ -1,0 +1,3 @@
+-- What every form has in common (Sizes), and the ranges as tests and as orders (Ranges).
+pub mod Sizes
+pub mod Ranges

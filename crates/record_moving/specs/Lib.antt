@@ -1,0 +1,2 @@
+-- What moving a record to the other form answers and leaves.
+pub mod Moving
