@@ -78,7 +78,7 @@ knownFrom none none = known.Damaged
 unfoldable pub knownIn : List ℕ → Known
 knownIn s = knownFrom (readRecord form.Two s) (readRecord form.One s)
 
--- "form 2 if it is one, else form 1"
+-- "as form 2 if it is one, else as form 1"
 abbrev pub readEither : List ℕ → Option (List RecordEntry)
 readEither s = either (readRecord form.Two s) (readRecord form.One s)
 
