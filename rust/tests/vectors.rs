@@ -34,7 +34,7 @@ fn protect_list() {
         assert_eq!((got.request, got.semi_octets, got.bits), (request, 0, 0));
         assert_eq!(back, frame);
     }
-    assert_eq!(lines.len(), 173);
+    assert_eq!(lines.len(), 181);
 }
 
 /// Unprotects every slot of a list: how many lines it has, and how many of them no call can be made of. Those have a slot of

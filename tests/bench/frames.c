@@ -26,7 +26,9 @@
 #endif
 enum { MOST_FRAMES = 512, READERS = 2, SIDES = READERS + DECODERS };
 
-/* ---- the frames of the file, and those of one length among them, by rate: a lot is a rate */
+/* ---- the frames of the file, and those of one length among them, by rate: a lot is a rate. All are of 10 ms. */
+static const settings *const rates = &reference_settings[AT_TEN_MS];
+
 typedef struct { unsigned rate; size_t length; uint8_t bytes[MOST_BYTES]; } frame;
 typedef struct { const frame *frames[MOST_FRAMES]; size_t count; } frames_of_rate;
 
@@ -41,7 +43,7 @@ static void read_line(const char *line, frame *f)
     unsigned byte;
     if (sscanf(line, "%" SCNu32 " %800s", &khz, hex) != 2)
         fails("a line of bench_frames.txt is not a rate and a frame");
-    for (f->rate = 0; f->rate < RATES - 1 && reference_rates[f->rate].khz != khz;)
+    for (f->rate = 0; f->rate < RATES - 1 && rates[f->rate].khz != khz;)
         f->rate++;
     for (f->length = 0; sscanf(hex + 2 * f->length, "%2x", &byte) == 1; f->length++)
         f->bytes[f->length] = (uint8_t)byte;
@@ -76,15 +78,16 @@ static void choose(size_t length)
 }
 
 /* ---- a pass of one side over the chosen frames of a rate */
-typedef silberlaus_frame read_call(uint32_t, const uint8_t *, size_t, int32_t *, size_t, uint8_t *, size_t);
-
-static read_call *const readers[READERS] = {silberlaus_read_frame, reference_read_frame};
 static answer answers[READERS][RATES][MOST_FRAMES];
 
 static void read_frame(unsigned side, const frame *f, answer *a)
 {
-    const settings *rate = &reference_rates[f->rate];
-    a->fields = readers[side](rate->khz, f->bytes, f->length, a->spectrum, rate->lines, a->residual, rate->lines);
+    const settings *set = &rates[f->rate];
+    if (side == ARCHIVE)
+        a->fields = silberlaus_read_frame(set->khz, f->bytes, f->length, a->spectrum, set->lines, a->residual, set->lines);
+    else
+        a->fields = reference_read_frame(set->khz, set->quarters, f->bytes, f->length, a->spectrum, set->lines, a->residual,
+                                         set->lines);
 }
 
 static void decode_frame(const frame *f)
@@ -94,7 +97,7 @@ static void decode_frame(const frame *f)
     static lc3_decoder_t decoders[RATES];
     static int16_t sound[480];
     if (decoders[f->rate] == NULL)
-        decoders[f->rate] = lc3_setup_decoder(10000, (int)reference_rates[f->rate].khz * 1000, 0, &memory[f->rate]);
+        decoders[f->rate] = lc3_setup_decoder(10000, (int)rates[f->rate].khz * 1000, 0, &memory[f->rate]);
     if (lc3_decode(decoders[f->rate], f->bytes, (int)f->length, LC3_PCM_FORMAT_S16, sound, 1) != 0)
         fails("liblc3 does not decode a frame");
 #else
@@ -129,7 +132,7 @@ static void others(unsigned side)
 /* Both readers accepted every frame and left the same. */
 static void compare(unsigned rate)
 {
-    size_t lines = reference_rates[rate].lines;
+    size_t lines = rates[rate].lines;
     for (size_t n = 0; n < chosen[rate].count; n++) {
         const answer *one = &answers[ARCHIVE][rate][n], *other = &answers[PAPERS][rate][n];
         if (one->fields.number != 0 || other->fields.number != 0)
@@ -148,8 +151,8 @@ static void print_row(size_t length, unsigned rate, const ns *best)
     double symbols = 0;
     for (size_t n = 0; n < chosen[rate].count; n++)
         symbols += answers[ARCHIVE][rate][n].fields.symbols;
-    snprintf(name, sizeof name, "read, frame of %zu bytes, %" PRIu32 " kHz", length, reference_rates[rate].khz);
-    said(printf("| %5zu | %3" PRIu32 " | %7.0f |", length, reference_rates[rate].khz, symbols / (double)chosen[rate].count));
+    snprintf(name, sizeof name, "read, frame of %zu bytes, %" PRIu32 " kHz", length, rates[rate].khz);
+    said(printf("| %5zu | %3" PRIu32 " | %7.0f |", length, rates[rate].khz, symbols / (double)chosen[rate].count));
     print_cells(best, name);
     if (DECODERS)
         said(printf(" %7.0f | %5.2f |", best->of[THIRD], best->of[ARCHIVE] / best->of[THIRD]));

@@ -30,13 +30,15 @@ const char *lend_difference(const silberlaus_frame *one, const silberlaus_frame 
 }
 
 /* ---- lent memory */
+static reader *read_frame;
 static uint8_t *page;
 static size_t page_size;
 static int32_t spectrum[GUARD + ROOM + GUARD], wanted_spectrum[GUARD + ROOM + GUARD];
 static uint8_t residual[GUARD + ROOM + GUARD], wanted_residual[GUARD + ROOM + GUARD];
 
-void lend_prepare(void)
+void lend_prepare(reader *read)
 {
+    read_frame = read;
     page_size = (size_t)sysconf(_SC_PAGESIZE);
     page = mmap(NULL, 3 * page_size, PROT_NONE, MAP_PRIVATE | MAP_ANONYMOUS, -1, 0);
     if (page_size < ROOM || page == MAP_FAILED || mprotect(page + page_size, page_size, PROT_READ | PROT_WRITE) != 0) {
@@ -68,9 +70,9 @@ const char *lend_and_compare(const request *r, const answer *want, silberlaus_fr
         memcpy(frame, r->frame, r->length);
     fill(r, byte, NULL, spectrum, residual);
     fill(r, byte, want->fields.number == 0 ? want : NULL, wanted_spectrum, wanted_residual);
-    *got = silberlaus_read_frame(r->khz, r->frame_nowhere ? NULL : frame, r->length,
-                                 r->spectrum_nowhere ? NULL : spectrum + GUARD, r->spectrum_length,
-                                 r->residual_nowhere ? NULL : residual + GUARD, r->residual_length);
+    *got = read_frame(r->khz, r->quarters, r->frame_nowhere ? NULL : frame, r->length,
+                      r->spectrum_nowhere ? NULL : spectrum + GUARD, r->spectrum_length,
+                      r->residual_nowhere ? NULL : residual + GUARD, r->residual_length);
     const char *field = lend_difference(got, &want->fields);
     if (field != NULL)
         return field;
@@ -81,14 +83,15 @@ const char *lend_and_compare(const request *r, const answer *want, silberlaus_fr
     return r->length > 0 && memcmp(frame, r->frame, r->length) != 0 ? "frame" : NULL;
 }
 
-request lend_right(uint32_t khz, const uint8_t *frame, size_t length)
+request lend_right(uint32_t khz, uint32_t quarters, const uint8_t *frame, size_t length)
 {
-    size_t lines = reference_line_count(khz);
-    return (request){.khz = khz, .frame = frame, .length = length, .spectrum_length = lines, .residual_length = lines};
+    size_t lines = reference_line_count(khz, quarters);
+    return (request){.khz = khz, .quarters = quarters, .frame = frame, .length = length, .spectrum_length = lines,
+                     .residual_length = lines};
 }
 
 void lend_reference(const request *r, answer *want)
 {
-    want->fields = reference_read_frame(r->khz, r->frame, r->length, want->spectrum, r->spectrum_length, want->residual,
-                                        r->residual_length);
+    want->fields = reference_read_frame(r->khz, r->quarters, r->frame, r->length, want->spectrum, r->spectrum_length,
+                                        want->residual, r->residual_length);
 }

@@ -8,24 +8,46 @@
 #include "tables.h"
 
 enum { MOST_LEVEL = 14, ESCAPE = 16 };
-enum cause { BANDWIDTH = 1, LAST_LINE, JOINT_INDEX, ARITHMETIC_VALUE, ESCAPES, OUTSIDE, NONE_LEFT };
+enum cause { BANDWIDTH = 1, LAST_LINE, JOINT_INDEX, ARITHMETIC_VALUE, ESCAPES, OUTSIDE, NONE_LEFT, TNS_ORDER };
 
-/* ---- settings */
-const settings reference_rates[RATES] = {{8, 80, 0, 0, 6}, {16, 160, 1, 1, 7}, {24, 240, 2, 2, 7}, {32, 320, 3, 2, 8},
-                                         {48, 400, 4, 3, 8}};
+/* ---- settings
+   Of the rate index i: the bandwidth bits (Table 5.21) and the bits above which the rate offset is 512 (5.3.11.5). Of i and
+   the duration q: NE (formula 7 of 5.3.4.3, at most 40 lines a millisecond) and the last-pair bits w (Table 5.19). Of q: the
+   bandwidth from which on there are two TNS filters (Table 5.24), the highest TNS order (5.4.2.7), and the bits below which
+   the weighting row is 1 (formula 69 of 5.3.9.2, whose 480 is the 12 q of 10 ms). */
+#define SETTING(i, khz, bandwidth_bits, q, w, two_from, order) \
+    {khz, q, 2 * q * (i + 1), 12 * q, 160 + 160 * i, i, bandwidth_bits, w, two_from, order}
+#define DURATION(q, w0, w1, w2, w3, w4, two_from, order) \
+    SETTING(0, 8, 0, q, w0, two_from, order), SETTING(1, 16, 1, q, w1, two_from, order), \
+    SETTING(2, 24, 2, q, w2, two_from, order), SETTING(3, 32, 2, q, w3, two_from, order), \
+    SETTING(4, 48, 3, q, w4, two_from, order)
 
-static const settings *settings_of(uint32_t khz)
+/* above every bandwidth */
+enum { NEVER = 5 };
+
+/* q; w at the five rates; two filters from; highest order */
+const settings reference_settings[SETTINGS] = {
+    DURATION(10, 4, 5, 5, 6, 6, NEVER, 4),
+    DURATION(20, 5, 6, 6, 7, 7, 3, 4),
+    DURATION(30, 5, 6, 7, 7, 8, 3, 8),
+    DURATION(40, 6, 7, 7, 8, 8, 3, 8),
+};
+
+const settings *reference_settings_of(uint32_t khz, uint32_t quarters)
 {
+    if (quarters < 10 || quarters > TEN_MS || quarters % 10 != 0)
+        return NULL;
+    const settings *set = &reference_settings[(quarters / 10 - 1) * RATES];
     for (unsigned i = 0; i < RATES; i++)
-        if (reference_rates[i].khz == khz)
-            return &reference_rates[i];
+        if (set[i].khz == khz)
+            return &set[i];
     return NULL;
 }
 
-size_t reference_line_count(uint32_t khz)
+size_t reference_line_count(uint32_t khz, uint32_t quarters)
 {
-    const settings *rate = settings_of(khz);
-    return rate == NULL ? 0 : rate->lines;
+    const settings *set = reference_settings_of(khz, quarters);
+    return set == NULL ? 0 : set->lines;
 }
 
 /* ---- the two streams: side bits from the last byte backwards, arithmetic symbols from the front */
@@ -106,18 +128,18 @@ static int read_shape(streams *s, silberlaus_frame *f)
     return f->shape_joint >= (f->shape_mode ? JOINT_LIMIT_1 : JOINT_LIMIT_0) ? JOINT_INDEX : 0;
 }
 
-static int read_side_information(streams *s, const settings *rate, silberlaus_frame *f)
+static int read_side_information(streams *s, const settings *set, silberlaus_frame *f)
 {
-    f->bandwidth = (uint8_t)side_field(s, rate->bandwidth_bits);
-    if (f->bandwidth > rate->index)
+    f->bandwidth = (uint8_t)side_field(s, set->bandwidth_bits);
+    if (f->bandwidth > set->index)
         return BANDWIDTH;
-    f->last_line = (uint16_t)(2 * (side_field(s, rate->last_pair_bits) + 1));
-    if (f->last_line > rate->lines)
+    f->last_line = (uint16_t)(2 * (side_field(s, set->last_pair_bits) + 1));
+    if (f->last_line > set->lines)
         return LAST_LINE;
     f->lsb_mode = (uint8_t)side_field(s, 1);
     f->gain = (uint8_t)side_field(s, 8);
     f->tns_flag_0 = (uint8_t)side_field(s, 1);
-    f->tns_flag_1 = f->bandwidth > 2 ? (uint8_t)side_field(s, 1) : 0;
+    f->tns_flag_1 = f->bandwidth >= set->two_filters_from ? (uint8_t)side_field(s, 1) : 0;
     f->pitch_present = (uint8_t)side_field(s, 1);
     int cause = read_shape(s, f);
     if (cause != 0)
@@ -132,12 +154,14 @@ static int read_side_information(streams *s, const settings *rate, silberlaus_fr
 
 /* ---- TNS filters (step 7) */
 
-static int read_filter(streams *s, uint8_t *order, uint8_t *coefficients)
+static int read_filter(streams *s, const settings *set, uint8_t *order, uint8_t *coefficients)
 {
-    int weighting = 8 * s->length < 480, symbol = take_symbol(s, order_cumulative[weighting]);
+    int weighting = 8 * s->length < set->weighting_below, symbol = take_symbol(s, order_cumulative[weighting]);
     if (symbol < 0)
         return -symbol;
     *order = (uint8_t)(1 + symbol);
+    if (*order > set->most_order)
+        return TNS_ORDER;
     for (int k = 0; k < *order; k++) {
         symbol = take_symbol(s, coefficient_cumulative[k]);
         if (symbol < 0)
@@ -147,11 +171,11 @@ static int read_filter(streams *s, uint8_t *order, uint8_t *coefficients)
     return 0;
 }
 
-static int read_filters(streams *s, silberlaus_frame *f)
+static int read_filters(streams *s, const settings *set, silberlaus_frame *f)
 {
-    int cause = f->tns_flag_0 ? read_filter(s, &f->tns_order_0, f->tns_coefficients_0) : 0;
+    int cause = f->tns_flag_0 ? read_filter(s, set, &f->tns_order_0, f->tns_coefficients_0) : 0;
     if (cause == 0 && f->tns_flag_1)
-        cause = read_filter(s, &f->tns_order_1, f->tns_coefficients_1);
+        cause = read_filter(s, set, &f->tns_order_1, f->tns_coefficients_1);
     return cause;
 }
 
@@ -201,13 +225,13 @@ static inline uint32_t next_context(uint32_t context, uint32_t sum, uint32_t lev
 }
 
 /* The lines up to the last line, and each pair's level. */
-static int read_pairs(streams *given, const settings *rate, const silberlaus_frame *f, int32_t *lines, uint8_t *levels)
+static int read_pairs(streams *given, const settings *set, const silberlaus_frame *f, int32_t *lines, uint8_t *levels)
 {
     streams s = *given;
-    uint32_t context = 0, offset = 8 * s.length > 160 + 160 * rate->index ? 512 : 0;
+    uint32_t context = 0, offset = 8 * s.length > set->offset_above ? 512 : 0;
     for (uint32_t k = 0; k < f->last_line; k += 2) {
         magnitudes m;
-        uint32_t base = context + offset + (k > rate->lines / 2u ? 256 : 0);
+        uint32_t base = context + offset + (k > set->lines / 2u ? 256 : 0);
         int cause = read_magnitudes(&s, f->lsb_mode, spectrum_lookup + base, &m);
         if (cause != 0)
             return cause;
@@ -278,36 +302,36 @@ static silberlaus_frame refused(uint8_t number, int cause)
 }
 
 /* Steps 1 to 9: 0 with what is left for the residual, or the cause. */
-static int read_checked(streams *s, const settings *rate, silberlaus_frame *f, int32_t *lines, uint8_t *levels,
+static int read_checked(streams *s, const settings *set, silberlaus_frame *f, int32_t *lines, uint8_t *levels,
                         int32_t *left)
 {
-    int cause = read_side_information(s, rate, f);
+    int cause = read_side_information(s, set, f);
     if (cause != 0)
         return cause;
     start_arithmetic(s);
-    cause = read_filters(s, f);
+    cause = read_filters(s, set, f);
     if (cause != 0)
         return cause;
-    cause = read_pairs(s, rate, f, lines, levels);
+    cause = read_pairs(s, set, f, lines, levels);
     if (cause != 0)
         return cause;
     *left = bits_left(s);
     return *left < 0 ? NONE_LEFT : 0;
 }
 
-silberlaus_frame reference_read_frame(uint32_t khz, const uint8_t *frame, size_t frame_len, int32_t *spectrum,
-                                      size_t spectrum_len, uint8_t *residual, size_t residual_len)
+silberlaus_frame reference_read_frame(uint32_t khz, uint32_t quarters, const uint8_t *frame, size_t frame_len,
+                                      int32_t *spectrum, size_t spectrum_len, uint8_t *residual, size_t residual_len)
 {
-    const settings *rate = settings_of(khz);
-    if (rate == NULL || frame_len < LEAST_BYTES || frame_len > MOST_BYTES)
+    const settings *set = reference_settings_of(khz, quarters);
+    if (set == NULL || frame_len < LEAST_BYTES || frame_len > MOST_BYTES)
         return refused(1, 0);
-    if (spectrum_len != rate->lines || residual_len != rate->lines)
+    if (spectrum_len != set->lines || residual_len != set->lines)
         return refused(2, 0);
     int32_t lines[MOST_LINES], left;
     uint8_t levels[MOST_LINES / 2];
     streams s = {.frame = frame, .length = (int32_t)frame_len};
     silberlaus_frame f = {0};
-    int cause = read_checked(&s, rate, &f, lines, levels, &left);
+    int cause = read_checked(&s, set, &f, lines, levels, &left);
     if (cause != 0)
         return refused(5, cause);
     f.symbols = (uint16_t)s.symbols;

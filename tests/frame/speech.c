@@ -11,6 +11,7 @@
 #include <string.h>
 
 #include "../common/said.h"
+#include "archive.h"
 #include "lend.h"
 
 enum { FRAME_US = 10000, MOST_SAMPLES = 480, FRAMES = 24, LISTED = 16, SHOWN = 5 };
@@ -99,7 +100,7 @@ static void speak(uint32_t khz, size_t length)
         answer want;
         silberlaus_frame got;
         say(&s, frame, length);
-        request r = lend_right(khz, frame, length);
+        request r = lend_right(khz, TEN_MS, frame, length);
         lend_reference(&r, &want);
         const char *difference = lend_and_compare(&r, &want, &got);
         judge(want.fields.number != 0 ? "refusal" : difference, &r, &want.fields);
@@ -108,13 +109,13 @@ static void speak(uint32_t khz, size_t length)
 
 static int every_frame(void)
 {
-    lend_prepare();
-    for (unsigned i = 0; i < RATES; i++) {
+    lend_prepare(archive_read_frame);
+    for (unsigned i = AT_TEN_MS; i < SETTINGS; i++) {
         frames = filters = pitches = late_low_bits = with_residual = 0;
         for (size_t length = LEAST_BYTES; length <= MOST_BYTES; length++)
-            speak(reference_rates[i].khz, length);
+            speak(reference_settings[i].khz, length);
         said(printf("%2" PRIu32 " kHz: %lu frames of liblc3, %lu with TNS filters, %lu with pitch, %lu in LSB mode 1, %lu with "
-                    "residual bits; %lu wrong so far\n", reference_rates[i].khz, frames, filters, pitches, late_low_bits,
+                    "residual bits; %lu wrong so far\n", reference_settings[i].khz, frames, filters, pitches, late_low_bits,
                     with_residual, wrong));
     }
     return wrong > 0;
@@ -145,8 +146,8 @@ int main(int argc, char **argv)
         status = every_frame();
     else
         for (unsigned i = 0; i < sizeof lengths / sizeof lengths[0]; i++)
-            for (unsigned rate = 0; rate < RATES; rate++)
-                list(reference_rates[rate].khz, lengths[i]);
+            for (unsigned rate = AT_TEN_MS; rate < SETTINGS; rate++)
+                list(reference_settings[rate].khz, lengths[i]);
     (void)argv;
     all_said();
     return status;

@@ -7,34 +7,23 @@ use Prim.Native.Nat.{ℕ, suc, _+_, _-_, _≤_, _<_}
 use native.Mathlib.Numerals.{add-one}
 use native.Mathlib.Omega.{arith}
 use lib.Dec.{leb, ltb, eqb}
-use lib.ListN.{length, getD, take, drop, length-append, length-drop, length-take, take-append-drop, List·getD-eq-default}
-use lib.Seq.{take-at, take-take, take-all, length-take-le, getD-take}
+use lib.ListN.{length, getD, take, drop, length-append, length-take, List·getD-eq-default}
+use lib.Seq.{take-at, take-take, length-take-le, getD-take}
 use borrow.Author.Tests.{leb-true, le-leb, lt-leb, ltb-true, ltb-false, eqb-true, eq-eqb, ne-eqb}
 use Rattle.record_forms.specs.declared.Form.{Form}
 use Rattle.record_forms.specs.Forms.{trailerSize, endSize}
 use Rattle.record_bytes.specs.declared.Walked.the-variants as walked
-use Rattle.record_bytes.specs.Layout.{
-  RecordEntry,
-  trailerBytes,
-  trailer,
-  entryBytes,
-  entriesBytes,
-  endBytes,
-  recordBytes,
-  EntryInRange,
-  IsRecord,
-  most,
-}
+use Rattle.record_bytes.specs.Layout.{RecordEntry, trailer, entryBytes, entriesBytes, endBytes, recordBytes, EntryInRange, IsRecord, most}
 use Rattle.record_forms.specs.Ranges.{inRange}
 use Rattle.record_bytes.specs.Reading.{readRecord}
-use Rattle.record_bytes.specs.Steps.{walkOf, put, tailOf}
+use Rattle.record_bytes.specs.Steps.{walkOf, put}
 use Rattle.record_answers.specs.Answers.{accepted, refused}
 use Rattle.record.specs.Answers.{mayAddTo, mayAdd, usedWith, hasRoom, addAnswer, addBuffer}
 use Rattle.record_bytes.proofs.Numbers.{Bytes}
-use Rattle.record_forms.proofs.Ranges.{and-left, and-right, in-range-of}
-use Rattle.record_bytes.proofs.Inverse.{length-trailer, length-end, entries-one, length-one, count-most, is-read}
+use Rattle.record_forms.proofs.Ranges.{and-left, and-right, bits-fit, in-range-of}
+use Rattle.record_bytes.proofs.Inverse.{length-trailer, length-entry, length-end, entries-one, length-one, count-most, is-read}
 use Rattle.record_bytes.proofs.Walking.{whole-read, none-read}
-use Rattle.record_bytes.proofs.Putting.{length-put, put-put}
+use Rattle.record_bytes.proofs.Putting.{put-put}
 
 -- ---- the 1: the used length, the entry's fields and the frame's length
 
@@ -71,7 +60,9 @@ pub record Allowed (d : List ℕ) (used : ℕ) (e : RecordEntry) (size : ℕ) : 
   pub small : used ≤ 65536
   pub request : e .request ≤ 3
   pub count : e .count ≤ 162
+  pub bits : e .bits ≤ 65535
   pub sized : size ≡ length (e .frame)
+  pub long : 20 ≤ size
   pub short : size ≤ 400
   pub ranges : EntryInRange e
 
@@ -89,67 +80,65 @@ allowed d used e size m =
       small = leb-true used most (and-right (leb used (length d)) (leb used most) u);
       request = r .0;
       count = r .1;
+      bits = bits-fit (e .count) (e .bits) (r .4);
       sized = l;
+      long = r .2;
       short = r .3;
       ranges = ap (inRange (e .request) (e .count) (e .bits)) (sym l) ∙ and-left i z t;
     }
-
--- a frame, and what is behind it in two parts, put one after the other
-pub put-added : (d x t a b after : List ℕ) (at : ℕ) → length t ≡ 11 → at + length x + 11 ≤ length d → a ≡ put d at x
-    → b ≡ put a (at + length x) (take 8 t) → after ≡ put b (at + length x + 8) (take (11 - 8) (drop 8 t)) → after ≡ put d at (x ++ t)
-put-added d x t a b after at l h p q r =
-    let k : length (take 8 t) ≡ 8 = length-take-le 8 t (omega arith) in
-    let e : length (drop 8 t) ≡ 11 - 8 = length-drop-of t l in
-    let w : take (11 - 8) (drop 8 t) ≡ drop 8 t = take-all (11 - 8) (drop 8 t) (omega arith) in
-    let la : length a ≡ length d = ap length p ∙ length-put d at x (omega arith) in
-    let y : put b (at + length x + 8) (drop 8 t) ≡ put a (at + length x) (take 8 t ++ drop 8 t) =
-    ap (λ (c : List ℕ). put c (at + length x + 8) (drop 8 t)) q
-    ∙ ap (λ (i : ℕ). put (put a (at + length x) (take 8 t)) (at + length x + i) (drop 8 t)) (sym k)
-    ∙ put-put a (at + length x) (take 8 t) (drop 8 t) (omega arith) in
-    r ∙ ap (put b (at + length x + 8)) w ∙ y ∙ ap (put a (at + length x)) (take-append-drop 8 t)
-    ∙ ap (λ (c : List ℕ). put c (at + length x) t) p ∙ put-put d at x t (omega arith)
-  where
-    length-drop-of : (z : List ℕ) → length z ≡ 11 → length (drop 8 z) ≡ 11 - 8
-    length-drop-of z m = simp length-drop (omega arith)
 
 module _ (f : Form) where
   record-bytes : (s : List ℕ) (es : List RecordEntry) → IsRecord f s es → s ≡ entriesBytes f es ++ endBytes f (length es)
   unfolding recordBytes
   record-bytes s es r = r .bytes
 
-  abbrev tailFor : RecordEntry → ℕ → ℕ → List ℕ
-  tailFor e size n = tailOf f (e .request) (e .count) (e .bits) size (n + 1)
+  -- what follows an added frame: its trailer, then the record's end
+  abbrev tailFor : RecordEntry → ℕ → List ℕ
+  tailFor e n = trailer f e ++ endBytes f (n + 1)
+
+  -- the entry and then the end, put one after the other
+  pub put-added : (d mid after : List ℕ) (at stop n : ℕ) (e : RecordEntry) → at + (length (e .frame) + trailerSize f) ≡ stop
+      → stop + endSize f ≤ length d → mid ≡ put d at (entryBytes f e) → after ≡ put mid stop (endBytes f (n + 1))
+      → after ≡ put d at (e .frame ++ tailFor e n)
+  unfolding entryBytes
+  put-added d mid after at stop n e s h p r =
+      let x : List ℕ = e .frame ++ trailer f e in
+      let l : length x ≡ length (e .frame) + trailerSize f = length-entry f e in
+      let b : List ℕ = endBytes f (n + 1) in
+      let k : stop ≡ at + length x = omega arith in
+      r ∙ ap (λ (y : List ℕ). put y stop b) p ∙ ap (λ (i : ℕ). put (put d at x) i b) k ∙ put-put d at x b (omega arith)
+      ∙ ap (put d at) (append-assoc (e .frame) (trailer f e) b)
 
   -- the entry's bytes and the new end, behind the old entries
-  stored-bytes : (es : List RecordEntry) (e : RecordEntry) (size n : ℕ) → size ≡ length (e .frame) → n ≡ length es
-      → entriesBytes f es ++ (e .frame ++ tailFor e size n) ≡ recordBytes f (es ++ (e ∷ []))
-  unfolding recordBytes entryBytes trailer tailOf
-  stored-bytes es e size n p q =
+  stored-bytes : (es : List RecordEntry) (e : RecordEntry) (n : ℕ) → n ≡ length es
+      → entriesBytes f es ++ (e .frame ++ tailFor e n) ≡ recordBytes f (es ++ (e ∷ []))
+  unfolding recordBytes entryBytes
+  stored-bytes es e n q =
       let m : n + 1 ≡ length (es ++ (e ∷ [])) = add-one n ∙ ap suc q ∙ sym (length-one es e) in
-      rw (entries-one f es e, p, m) (simp append-assoc)
+      rw (entries-one f es e, m) (simp append-assoc)
 
-  pub length-tail : (q c b size n : ℕ) → length (tailOf f q c b size n) ≡ trailerSize f + endSize f
-  unfolding tailOf
-  length-tail q c b size n =
-      let t : length (trailerBytes f q c b size) ≡ trailerSize f = length-trailer f q c b size in
-      let e : length (endBytes f n) ≡ endSize f = length-end f n in
+  length-tail : (e : RecordEntry) (n : ℕ) → length (tailFor e n) ≡ trailerSize f + endSize f
+  unfolding trailer
+  length-tail e n =
+      let t : length (trailer f e) ≡ trailerSize f = length-trailer f (e .request) (e .count) (e .bits) (length (e .frame)) in
+      let x : length (endBytes f (n + 1)) ≡ endSize f = length-end f (n + 1) in
       rw length-append (omega arith)
 
-  put-stored : (d : List ℕ) (used : ℕ) (es : List RecordEntry) (e : RecordEntry) (size n : ℕ)
+  put-stored : (d : List ℕ) (used : ℕ) (es : List RecordEntry) (e : RecordEntry) (n : ℕ)
       → used ≡ length (entriesBytes f es) + endSize f → take (used - endSize f) d ≡ entriesBytes f es
-      → n ≡ length es → size ≡ length (e .frame) → usedWith f used e ≤ length d
-      → put d (used - endSize f) (e .frame ++ tailFor e size n) ≡ recordBytes f (es ++ (e ∷ [])) ++ drop (usedWith f used e) d
+      → n ≡ length es → usedWith f used e ≤ length d
+      → put d (used - endSize f) (e .frame ++ tailFor e n) ≡ recordBytes f (es ++ (e ∷ [])) ++ drop (usedWith f used e) d
   unfolding put
-  put-stored d used es e size n u t q z h =
+  put-stored d used es e n u t q h =
       let at : ℕ = used - endSize f in
-      let x : List ℕ = e .frame ++ tailFor e size n in
-      let l : length x ≡ length (e .frame) + (trailerSize f + endSize f) = length-append (e .frame) (tailFor e size n)
-      ∙ ap (λ (k : ℕ). length (e .frame) + k) (length-tail (e .request) (e .count) (e .bits) size (n + 1)) in
+      let x : List ℕ = e .frame ++ tailFor e n in
+      let l : length x ≡ length (e .frame) + (trailerSize f + endSize f) = length-append (e .frame) (tailFor e n)
+      ∙ ap (λ (k : ℕ). length (e .frame) + k) (length-tail e n) in
       let g : at + length x ≡ usedWith f used e = omega arith in
       sym (append-assoc (take at d) x (drop (at + length x) d))
       ∙ ap (λ (k : ℕ). (take at d ++ x) ++ drop k d) g
       ∙ ap (λ (r : List ℕ). (r ++ x) ++ drop (usedWith f used e) d) t
-      ∙ ap (λ (r : List ℕ). r ++ drop (usedWith f used e) d) (stored-bytes es e size n z q)
+      ∙ ap (λ (r : List ℕ). r ++ drop (usedWith f used e) d) (stored-bytes es e n q)
 
   module _ (d : List ℕ) (used : ℕ) (e : RecordEntry) (size : ℕ) where
     pub room-yes : usedWith f used e ≤ length d → usedWith f used e ≤ 65536 → hasRoom f d used e ≡ true
@@ -212,13 +201,13 @@ module _ (f : Form) where
     pub add-stored : mayAdd d used e size ≡ true → Bytes d → (n v : ℕ)
         → walkOf f (readRecord f (take used d)) 0 ≡ walked.Whole n v → usedWith f used e ≤ length d → usedWith f used e ≤ 65536
         → (accepted (usedWith f used e) ≡ addAnswer f d used e size)
-        × (put d (used - endSize f) (e .frame ++ tailFor e size n) ≡ addBuffer f d used e size)
+        × (put d (used - endSize f) (e .frame ++ tailFor e n) ≡ addBuffer f d used e size)
     unfolding addAnswer addBuffer
     add-stored m b n v w h k =
         let a = allowed d used e size m in
         let o = whole-used (a .inside) b n v w in
         let r : hasRoom f d used e ≡ true = room-yes h k in
-        (simp (m, o .read, r), simp (m, o .read, r) (put-stored d used (o .es) e size n (o .long) (o .front) (o .counted) (a .sized) h))
+        (simp (m, o .read, r), simp (m, o .read, r) (put-stored d used (o .es) e n (o .long) (o .front) (o .counted) h))
 
     pub used-known : used ≤ length d → Bytes d → (n v : ℕ) → walkOf f (readRecord f (take used d)) 0 ≡ walked.Whole n v
         → (endSize f ≤ used) × (n ≤ used)

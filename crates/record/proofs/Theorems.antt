@@ -2,7 +2,7 @@
 use mathlib.Core.Path.{_≡_, refl, sym, ap, _∙_, subst}
 use mathlib.Core.Bool.{Bool, true, false, _&&_, cond}
 use mathlib.Core.Logic.{_↔_}
-use mathlib.Core.Option.{none, some}
+use mathlib.Core.Option.{Option, none, some}
 use mathlib.Core.List.{List, [], _∷_, _++_, append-assoc}
 use Prim.Native.Nat.{ℕ, zero, suc, _+_, _-_, _≤_, _<_}
 use native.Mathlib.Omega.{arith}
@@ -46,7 +46,7 @@ use Rattle.record.specs.Answers.{
   addBuffer,
 }
 use Rattle.record_bytes.specs.Steps.{walkOf}
-use Rattle.record.specs.Meaning.{CountMeans, entryFrom, Stored}
+use Rattle.record.specs.Meaning.{Counts, CountMeans, entryFrom, Stored}
 use Rattle.record_bytes.proofs.Numbers.{Bytes}
 use Rattle.record_bytes.proofs.Inverse.{
   length-entry,
@@ -58,7 +58,6 @@ use Rattle.record_bytes.proofs.Inverse.{
   read-bytes,
   is-read,
 }
-use Rattle.record_bytes.proofs.Walking.{whole-read, none-read}
 use Rattle.record_bytes.proofs.Standing.{locate-at}
 use Rattle.record.proofs.Adding.{bytes-take, allowed, whole-used}
 
@@ -98,17 +97,17 @@ module _ (f : Form) where
     λ r. read-record s es (r .0) ∙ ap some (r .1),
   )
 
-  pub count-means : (form : ℕ) → whichForm form ≡ which.Is f → (s : List ℕ) (n v : ℕ) → Bytes s
-      → walkOf f (readRecord f s) 0 ≡ walked.Whole n v → CountMeans form (accepted n) s
-  count-means form is s n v b w =
-      let k = whole-read f s 0 n v w in
-      rw is (k .es, is-read f s (k .es) b (k .read) .is, k .counted)
+  counts : (s : List ℕ) → Bytes s → (o : Option (List RecordEntry)) → readRecord f s ≡ o
+      → Counts (which.Is f) (entriesOf o .number) (entriesOf o .value) s
+  counts s b none q = λ es r.
+      let w : none ≡ some (heldAll f es) = sym q ∙ read-record s es r in
+      let z : _≡_ {A = ℕ} 0 1 = cc in absurd (omega arith)
+  counts s b (some es) q = (es, is-read f s es b q .is, refl)
 
-  pub none-means : (form : ℕ) → whichForm form ≡ which.Is f → (s : List ℕ) → walkOf f (readRecord f s) 0 ≡ walked.Broken
-      → CountMeans form (refused 7) s
-  none-means form is s w = rw is (λ es r.
-      let q : none ≡ some (heldAll f es) = sym (none-read f s 0 w) ∙ read-record s es r in
-      let z : _≡_ {A = ℕ} 0 1 = cc in absurd (omega arith))
+  pub count-means : (form : ℕ) → whichForm form ≡ which.Is f → (s : List ℕ) → Bytes s → (a : Answer) → a ≡ entriesIn f s
+      → CountMeans form a s
+  unfolding entriesIn
+  count-means form is s b a e = rw (is, e) (counts s b (readRecord f s) refl)
 
   -- ---- one entry more
 

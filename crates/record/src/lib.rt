@@ -3,14 +3,10 @@
 // definition in specs/Answers.antt, the lent buffer too; specs/Layout.antt of `record_bytes` says which bytes a list of entries is. Nothing
 // is written before the last test.
 ghost use mathlib.Core.Path.{_≡_};
-ghost use mathlib.Core.List.{_++_};
-ghost use Prim.Native.Nat.{_+_, _≤_};
-ghost use lib.ListN.{length};
-ghost use Rattle.record_bytes.specs.Steps.{put};
 ghost use Rattle.record_answers.specs.Answers.{madeNumber, countedAnswer, foundAnswer, addedAnswer};
 ghost use Rattle.record_forms.specs.declared.Form.the-variants.{Two};
-ghost use Rattle.record.specs.Answers.{newNumber, newBuffer, entriesAnswer, entryAnswer, framePart, mayAddTo};
-ghost use Rattle.record.specs.Answers.{addAnswer, addBuffer, asked};
+ghost use Rattle.record.specs.Answers.{newNumber, newBuffer, entriesIn, entriesAnswer, entryAnswer, framePart};
+ghost use Rattle.record.specs.Answers.{mayAddTo, addAnswer, addBuffer, asked};
 ghost use Rattle.record.specs.Meaning.{CountMeans, StoredBy};
 pub use record_answers::Added;
 pub use record_answers::Counted;
@@ -19,15 +15,14 @@ pub use record_answers::Made;
 pub use record_bytes::Located;
 use record_bytes::Step;
 use record_bytes::Walked;
-use record_bytes::copy_in;
-use record_bytes::end_number;
 use record_bytes::entry_before;
-use record_bytes::tail;
 use record_bytes::walk;
 use record_forms::Form;
 use record_forms::Which;
 use record_forms::in_range;
 use record_forms::which_form;
+use record_putting::put_end;
+use record_putting::put_entry;
 use widening::wide2;
 use widening::wide4;
 
@@ -40,28 +35,33 @@ pub fn new(form: u32, buffer: &mut [u8]) -> Made
     let Which::Is(f) = which else {
         return Made::NoForm;
     };
-    let size = f.end();
-    if buffer.len() < size {
+    if buffer.len() < f.end() {
         return Made::NoRoom;
     }
-    let none = end_number(0);
-    copy_in(buffer, 0, &none[..size]);
+    put_end(f, buffer, 0, 0);
     Made::Empty
 }
 
-// The number of entries of a record.
+// The number of entries of a record of a form.
+fn entries_in(form: Form, bytes: &[u8]) -> Counted
+    ensures { λ r. ⌜ countedAnswer r ≡ entriesIn form (now (bytes .entry)) ⌝ }
+{
+    let walked = walk(form, bytes, 0);
+    match walked {
+        Walked::Whole(n, _) => Counted::Entries(n),
+        Walked::Broken => Counted::NotRecord,
+    }
+}
+
+// The number of entries of a record. Each form is named in its own arm, so that the compiler knows it inside the walk.
 pub fn entries(form: u32, bytes: &[u8]) -> Counted
     ensures { λ r. ⌜ countedAnswer r ≡ entriesAnswer form (now (bytes .entry)) ⌝ }
     ensures { λ r. ⌜ CountMeans form (countedAnswer r) (now (bytes .entry)) ⌝ }
 {
-    let which = which_form(form);
-    let Which::Is(f) = which else {
-        return Counted::NoForm;
-    };
-    let walked = walk(f, bytes, 0);
-    match walked {
-        Walked::Whole(n, _) => Counted::Entries(n),
-        Walked::Broken => Counted::NotRecord,
+    match form {
+        1 => entries_in(Form::One, bytes),
+        2 => entries_in(Form::Two, bytes),
+        _ => Counted::NoForm,
     }
 }
 
@@ -127,20 +127,6 @@ fn may_add(
     false
 }
 
-// Puts a frame from a place on, and behind it its trailer and the record's end.
-fn put_added(buffer: &mut [u8], at: usize, frame: &[u8], rest: &[u8])
-    requires { ⌜ length (now rest) ≡ 11 ⌝ }
-    requires { ⌜ at + length (now frame) + 11 ≤ length (now buffer) ⌝ }
-    requires { ⌜ at + length (now frame) ≤ 65936 ⌝ }
-    ensures { λ _. ⌜ now (buffer .exit) ≡ put (now (buffer .entry)) at (now (frame .entry) ++ now (rest .entry)) ⌝ }
-{
-    let behind = at + frame.len();
-    copy_in(buffer, at, frame);
-    // In two parts, since the compiler makes one store of the first.
-    copy_in(buffer, behind, &rest[..8]);
-    copy_in(buffer, behind + 8, &rest[8..11]);
-}
-
 // Adds an entry to the record of form 2 in the first `used` bytes of the buffer.
 pub fn add(
     buffer: &mut [u8],
@@ -180,8 +166,17 @@ pub fn add(
         if 65536 < end {
             return Added::NoRoom;
         }
-        let rest = tail(request, count, bits, length, n + 1);
-        put_added(buffer, used - form.end(), frame, &rest);
+        let at = used - form.end();
+        put_entry(
+            form,
+            buffer,
+            at,
+            frame,
+            request as u8,
+            count as u8,
+            bits as u16,
+        );
+        put_end(form, buffer, end - form.end(), n + 1);
         Added::Used(end as u32)
     } else {
         Added::BadSetting

@@ -4,8 +4,9 @@ use mathlib.Core.Path.{_≡_, refl, sym, ap, _∙_, subst}
 use mathlib.Core.Bool.{Bool, true, false, cond}
 use mathlib.Core.Option.{none, some}
 use mathlib.Core.List.{List, [], _∷_, _++_, append-assoc}
-use Prim.Native.Nat.{ℕ, suc, _+_, _-_, _≤_}
+use Prim.Native.Nat.{ℕ, suc, _+_, _-_, _%_, _≤_, _<_}
 use native.Mathlib.Omega.{arith}
+use lib.Bits.{bitAnd, bitOr, or-add-and, or-zero-r, and-mask}
 use lib.Dec.{leb}
 use lib.ListN.{length, getD, take, drop, length-append, length-drop}
 use lib.Seq.{length-take-le, take-add, drop-drop, drop-cons, getD-at, drop-at, take-at}
@@ -38,6 +39,24 @@ bits-stand : (f : Form) (s : List ℕ) (at : ℕ) → Bytes s → at + bitsSize 
 unfolding bitsAt big
 bits-stand form.One s at b h = refl
 bits-stand form.Two s at b h = big-number 2 s at b h
+
+-- all sixteen bits set, joined to a number of sixteen bits
+or-ones : (n : ℕ) → n < 65536 → bitOr n 65535 ≡ 65535
+or-ones n h =
+    let a : bitOr n 65535 + bitAnd n 65535 ≡ n + 65535 = or-add-and n 65535 in
+    let b : bitAnd n 65535 ≡ n % 65536 = and-mask n 16 in
+    omega arith
+
+-- the two bytes, joined with the unknown bits where the form has none
+pub bits-joined : (f : Form) (s : List ℕ) (at n m : ℕ) → n < 65536 → n ≡ number s at 2 → m ≡ heldBits f 0
+    → (bitOr n m ≡ bitsAt f s at) × (bitOr n m < 65536)
+unfolding bitsAt
+bits-joined form.One s at n m h e k =
+    let r : bitOr n m ≡ 65535 = ap (bitOr n) k ∙ or-ones n h in
+    (r, omega arith)
+bits-joined form.Two s at n m h e k =
+    let r : bitOr n m ≡ n = ap (bitOr n) k ∙ or-zero-r n in
+    (r ∙ e, omega arith)
 
 -- ---- an entry that was found
 

@@ -13,7 +13,6 @@ use lib.ListN.{length, take, drop, length-append, length-drop, take-append-drop}
 use lib.Seq.{take-all, drop-drop}
 use borrow.Author.Tests.{leb-true, le-leb, eqb-true, eq-eqb}
 use Rattle.record_forms.specs.declared.Form.{Form}
-use Rattle.record_forms.specs.declared.Form.the-variants as form
 use Rattle.record_forms.specs.Forms.{bitsSize, markSize, mark, trailerSize, endSize}
 use Rattle.record_forms.proofs.Sizes.{bits-most, mark-fits}
 use Rattle.record_bytes.specs.Layout.{
@@ -46,12 +45,6 @@ length-one (x ∷ es) e = ap suc (length-one es e)
 pub ranges-one : (es : List RecordEntry) (e : RecordEntry) → AllInRange es → EntryInRange e → AllInRange (es ++ (e ∷ []))
 ranges-one [] e a r = (r, tt)
 ranges-one (x ∷ es) e a r = (a .0, ranges-one es e (a .1) r)
-
--- the end of either form is the beginning of form 2's
-pub end-of : (f : Form) (n : ℕ) → take (endSize f) (endBytes form.Two n) ≡ endBytes f n
-unfolding endBytes big
-end-of form.One n = refl
-end-of form.Two n = refl
 
 module _ (f : Form) where
   -- ---- lists of entries

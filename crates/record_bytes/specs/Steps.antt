@@ -6,7 +6,7 @@ use Prim.Native.Nat.{ℕ, _+_, _-_}
 use lib.ListN.{length, take, drop}
 use Rattle.record_forms.specs.declared.Form.{Form}
 use Rattle.record_forms.specs.Forms.{trailerSize}
-use Rattle.record_bytes.specs.Layout.{RecordEntry, trailerBytes, endBytes}
+use Rattle.record_bytes.specs.Layout.{RecordEntry}
 use Rattle.record_bytes.specs.Reading.{readRecord}
 use Rattle.record_bytes.specs.Located.{located, endAt}
 use Rattle.record_bytes.specs.declared.Step.{Step}
@@ -34,10 +34,6 @@ pub record Whole (f : Form) (s : List ℕ) (n : ℕ) : Type 0 where
 -- d with s put from `at` on
 unfoldable pub put : List ℕ → ℕ → List ℕ → List ℕ
 put d at s = take at d ++ (s ++ drop (at + length s) d)
-
--- what follows an added frame: its trailer, then the record's end
-unfoldable pub tailOf : Form → ℕ → ℕ → ℕ → ℕ → ℕ → List ℕ
-tailOf f request count bits size n = trailerBytes f request count bits size ++ endBytes f n
 
 -- what d became: x put into it so that it ends before `end`, from r on
 pub record Placed (d after : List ℕ) (r end : ℕ) (x : List ℕ) : Type 0 where

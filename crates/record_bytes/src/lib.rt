@@ -7,10 +7,9 @@ ghost use mathlib.Core.Bool.{cond};
 ghost use Prim.Native.Nat.{_+_, _≤_, _<_};
 ghost use lib.ListN.{length};
 ghost use lib.Dec.{eqb};
-ghost use Rattle.record_forms.specs.declared.Form.the-variants.{Two};
-ghost use Rattle.record_bytes.specs.Layout.{endBytes};
+ghost use Rattle.record_forms.specs.declared.Form.the-variants.{One, Two};
 ghost use Rattle.record_bytes.specs.Reading.{number, bitsAt, entryBefore, mayBe, readRecord};
-ghost use Rattle.record_bytes.specs.Steps.{put, stepOf, tailOf, walkOf};
+ghost use Rattle.record_bytes.specs.Steps.{put, stepOf, walkOf};
 use record_forms::Form;
 use record_forms::in_range;
 use widening::wide;
@@ -61,10 +60,7 @@ fn bits_at(form: Form, s: &[u8], at: usize) -> usize
     ensures { λ r. ⌜ r ≡ bitsAt form (now (s .entry)) at ⌝ }
     ensures { λ r. ⌜ r < 65536 ⌝ }
 {
-    match form {
-        Form::One => 65535,
-        Form::Two => number2(s, at),
-    }
+    number2(s, at) | form.joined_bits()
 }
 
 // The entry that ends before `end`.
@@ -82,8 +78,8 @@ pub fn entry_before(form: Form, bytes: &[u8], end: usize) -> Step
     let count = bytes[at + 1];
     let bits = bits_at(form, bytes, at + 2);
     let length = number2(bytes, end - 2);
-    if in_range(wide(request), wide(count), bits, length) {
-        if length <= at {
+    if length <= at {
+        if in_range(wide(request), wide(count), bits, length) {
             let start = at - length;
             Step::Entry(Located {
                 start: start as u32,
@@ -125,7 +121,7 @@ fn may_be(form: Form, bytes: &[u8]) -> bool
 }
 
 // Walks to byte 0, and notes on the way where the entry at `place` ends.
-pub fn walk(form: Form, bytes: &[u8], place: usize) -> Walked
+fn walk_back(form: Form, bytes: &[u8], place: usize) -> Walked
     ensures { λ r. ⌜ r ≡ walkOf form (readRecord form (now (bytes .entry))) place ⌝ }
 {
     if !may_be(form, bytes) {
@@ -151,44 +147,28 @@ pub fn walk(form: Form, bytes: &[u8], place: usize) -> Walked
     }
 }
 
-// The number of entries as it stands at the end of a record of form 2, with the form's mark; form 1's end is the first four bytes.
-pub fn end_number(n: u32) -> [u8; 5]
-    ensures { λ r. ⌜ r ≡ endBytes Two n ⌝ }
+// The walk in form 1. Each form has a function of its own, so that the compiler knows the form inside the loop.
+fn walk_one(bytes: &[u8], place: usize) -> Walked
+    ensures { λ r. ⌜ r ≡ walkOf One (readRecord One (now (bytes .entry))) place ⌝ }
 {
-    let a = n / 256;
-    let b = a / 256;
-    let c = b / 256;
-    [
-        (c % 256) as u8,
-        (b % 256) as u8,
-        (a % 256) as u8,
-        (n % 256) as u8,
-        2,
-    ]
+    walk_back(Form::One, bytes, place)
 }
 
-// What follows a frame that is added in form 2: request, count, bits and length, then the record's end.
-pub fn tail(request: u32, count: u32, bits: u32, length: u32, n: u32) -> [u8; 11]
-    requires { ⌜ request < 256 ⌝ }
-    requires { ⌜ count < 256 ⌝ }
-    ensures { λ r. ⌜ r ≡ tailOf Two request count bits length n ⌝ }
+// The walk in form 2.
+fn walk_two(bytes: &[u8], place: usize) -> Walked
+    ensures { λ r. ⌜ r ≡ walkOf Two (readRecord Two (now (bytes .entry))) place ⌝ }
 {
-    let e = end_number(n);
-    let b = bits / 256;
-    let l = length / 256;
-    [
-        request as u8,
-        count as u8,
-        (b % 256) as u8,
-        (bits % 256) as u8,
-        (l % 256) as u8,
-        (length % 256) as u8,
-        e[0],
-        e[1],
-        e[2],
-        e[3],
-        e[4],
-    ]
+    walk_back(Form::Two, bytes, place)
+}
+
+// The walk in either form.
+pub fn walk(form: Form, bytes: &[u8], place: usize) -> Walked
+    ensures { λ r. ⌜ r ≡ walkOf form (readRecord form (now (bytes .entry))) place ⌝ }
+{
+    match form {
+        Form::One => walk_one(bytes, place),
+        Form::Two => walk_two(bytes, place),
+    }
 }
 
 // Puts bytes into a buffer from a place on.

@@ -4,7 +4,7 @@
 ghost use mathlib.Core.Path.{_≡_};
 ghost use Prim.Native.Nat.{_≤_};
 ghost use Rattle.record_forms.specs.Forms.{trailerSize, endSize, whichForm};
-ghost use Rattle.record_forms.specs.Ranges.{bitsInRange, inRange};
+ghost use Rattle.record_forms.specs.Ranges.{bitsInRange, inRange, heldBits};
 
 // A record's form.
 pub enum Form {
@@ -26,6 +26,16 @@ impl Form {
         match self {
             Form::One => 4,
             Form::Two => 6,
+        }
+    }
+
+    // What is joined to the two bytes where an entry's bits stand in form 2: the unknown bits where the form has none.
+    pub fn joined_bits(self) -> usize
+        ensures { λ r. ⌜ r ≡ heldBits self 0 ⌝ }
+    {
+        match self {
+            Form::One => 65535,
+            Form::Two => 0,
         }
     }
 
@@ -70,9 +80,9 @@ pub fn in_range(request: usize, count: usize, bits: usize, length: usize) -> boo
     ensures { λ r. ⌜ r ≡ inRange request count bits length ⌝ }
 {
     match request {
-        0..=3 => match count {
-            0..=162 => match length {
-                20..=400 => bits_in_range(count, bits),
+        0..=3 => match length {
+            20..=400 => match count {
+                0..=162 => bits_in_range(count, bits),
                 _ => false,
             },
             _ => false,

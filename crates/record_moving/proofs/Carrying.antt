@@ -2,7 +2,7 @@
 use mathlib.Core.Path.{_≡_, refl, sym, ap, _∙_, subst}
 use mathlib.Core.Bool.{and-false}
 use mathlib.Core.Option.{none, some}
-use mathlib.Core.List.{List, [], _∷_, _++_, append-assoc}
+use mathlib.Core.List.{List, [], _∷_, _++_}
 use Prim.Native.Nat.{ℕ, suc, _+_, _*_, _-_, _≤_, _<_}
 use native.Mathlib.Nat.{add-zero, add-sub-cancel-left, suc-mul, mul-le-mul}
 use native.Mathlib.Omega.{arith}
@@ -10,14 +10,13 @@ use lib.ListN.{length, take, drop, length-append, length-drop, take-append-drop}
 use lib.Seq.{length-take-le}
 use borrow.Author.Tests.{le-leb, lt-leb}
 use Rattle.record_forms.specs.declared.Form.{Form}
-use Rattle.record_forms.specs.declared.Form.the-variants as form
-use Rattle.record_forms.specs.Forms.{bitsSize, trailerSize, endSize}
+use Rattle.record_forms.specs.Forms.{trailerSize, endSize}
 use Rattle.record_forms.proofs.Sizes.{bits-most}
+use Rattle.record_forms.proofs.Ranges.{in-range-of}
 use Rattle.record_bytes.specs.declared.Step.the-variants as step
 use Rattle.record_bytes.specs.declared.Located.{Located}
 use Rattle.record_bytes.specs.Layout.{
   RecordEntry,
-  big,
   trailerBytes,
   trailer,
   entryBytes,
@@ -29,8 +28,8 @@ use Rattle.record_bytes.specs.Reading.{entryBefore, readRecord}
 use Rattle.record_bytes.specs.Steps.{stepOf, Whole, put, Placed}
 use Rattle.record_answers.specs.Answers.{accepted, refused}
 use Rattle.record_moving.specs.Moving.{moveFits, moveAnswer, moveBuffer, entriesOf, entriesIn}
-use Rattle.record_bytes.proofs.Numbers.{Bytes, length-big}
-use Rattle.record_bytes.proofs.Inverse.{length-entry, length-end, length-record, count-most, entries-append, Read, is-read}
+use Rattle.record_bytes.proofs.Numbers.{Bytes}
+use Rattle.record_bytes.proofs.Inverse.{length-trailer, length-entry, length-end, length-record, count-most, entries-append, Read, is-read}
 use Rattle.record_bytes.proofs.Standing.{
   Standing,
   standing-start,
@@ -43,7 +42,7 @@ use Rattle.record_bytes.proofs.Standing.{
   next-long,
   next-bytes,
 }
-use Rattle.record_bytes.proofs.Putting.{length-put, put-put, put-before, placed-before}
+use Rattle.record_bytes.proofs.Putting.{put-before, placed-before}
 
 -- what is put at the start of a buffer
 pub put-first : (d x : List ℕ) → put d 0 x ≡ x ++ drop (length x) d
@@ -95,52 +94,25 @@ length-at f es a e b j = ap (λ (l : List RecordEntry). length (entriesBytes f l
 
 -- ---- one entry
 
-length-behind : (f : Form) (b n : ℕ) → length (big (bitsSize f) b ++ big 2 n) ≡ bitsSize f + 2
-length-behind f b n = length-append (big (bitsSize f) b) (big 2 n)
-    ∙ ap (λ (k : ℕ). k + length (big 2 n)) (length-big (bitsSize f) b) ∙ ap (λ (k : ℕ). bitsSize f + k) (length-big 2 n)
-
--- an entry's bytes from its frame, request and count on
-entry-split : (f : Form) (e : RecordEntry)
-    → entryBytes f e ≡ (e .frame ++ (e .request ∷ e .count ∷ [])) ++ (big (bitsSize f) (e .bits) ++ big 2 (length (e .frame)))
-unfolding entryBytes trailer trailerBytes
-entry-split f e = sym (append-assoc (e .frame) (e .request ∷ e .count ∷ []) (big (bitsSize f) (e .bits) ++ big 2 (length (e .frame))))
-
--- no bytes put change nothing
-pub put-none : (d : List ℕ) (at : ℕ) → d ≡ put d at []
-unfolding put
-put-none d at = sym (ap (λ (k : ℕ). take at d ++ drop k d) (add-zero at) ∙ take-append-drop at d)
-
--- the three parts of an entry are one
-pub entry-placed : (f : Form) (s d mid next after : List ℕ) (v : Located) (n start size end : ℕ) → n ≡ v .length → start ≡ v .start
-    → size ≡ trailerSize f → v .start + v .length + 2 ≤ length s
-    → v .length + trailerSize f ≤ end → end ≤ length d
-    → mid ≡ put d (end - (n + size)) (take (start + (n + 2) - start) (drop start s))
-    → next ≡ put mid (end - (n + size) + (n + 2)) (big (bitsSize f) (v .bits))
-    → after ≡ put next (end - 2) (big 2 (v .length))
+-- an entry that is put with its frame from the record ends where it is to end
+pub entry-placed : (f : Form) (s d after : List ℕ) (v : Located) (n start size end : ℕ) → n ≡ v .length → start ≡ v .start
+    → size ≡ trailerSize f → v .start + v .length ≤ length s → v .length + trailerSize f ≤ end → end ≤ length d
+    → (let x = take (start + n - start) (drop start s) in
+    after ≡ put d (end - (n + size)) (x ++ trailerBytes f (v .request) (v .count) (v .bits) (length x)))
     → Placed d after (end - (n + size)) end
-    (take (v .length + 2) (drop (v .start) s) ++ (big (bitsSize f) (v .bits) ++ big 2 (v .length)))
-entry-placed f s d mid next after v n start size end en es ez hs he hd p q r =
+    (take (v .length) (drop (v .start) s) ++ trailerBytes f (v .request) (v .count) (v .bits) (v .length))
+entry-placed f s d after v n start size end en es ez hs he hd p =
     let at : ℕ = end - (n + size) in
-    let x : List ℕ = take (v .length + 2) (drop (v .start) s) in
-    let b : List ℕ = big (bitsSize f) (v .bits) in
-    let l : List ℕ = big 2 (v .length) in
-    let lx : length x ≡ v .length + 2 = length-take-le (v .length + 2) (drop (v .start) s) (rw length-drop (omega arith)) in
-    let lb : length b ≡ bitsSize f = length-big (bitsSize f) (v .bits) in
-    let ll : length l ≡ 2 = length-big 2 (v .length) in
-    let ly : length (b ++ l) ≡ bitsSize f + 2 = length-behind f (v .bits) (v .length) in
-    let first : take (start + (n + 2) - start) (drop start s) ≡ x =
-    ap (λ (k : ℕ). take k (drop start s)) (add-sub-cancel-left start (n + 2))
-    ∙ ap (λ (k : ℕ). take (k + 2) (drop start s)) en ∙ ap (λ (k : ℕ). take (v .length + 2) (drop k s)) es in
-    let m : mid ≡ put d at x = p ∙ ap (put d at) first in
-    let lm : length mid ≡ length d = ap length m ∙ length-put d at x (omega arith) in
-    let gap : n + 2 ≡ length x = omega arith in
-    let last : end - 2 ≡ at + (n + 2) + length b = omega arith in
-    let both : put next (end - 2) l ≡ put mid (at + (n + 2)) (b ++ l) = ap (λ (k : ℕ). put next k l) last
-    ∙ ap (λ (t : List ℕ). put t (at + (n + 2) + length b) l) q ∙ put-put mid (at + (n + 2)) b l (omega arith) in
+    let x : List ℕ = take (v .length) (drop (v .start) s) in
+    let t : ℕ → List ℕ = trailerBytes f (v .request) (v .count) (v .bits) in
+    let lx : length x ≡ v .length = length-take-le (v .length) (drop (v .start) s) (rw length-drop (omega arith)) in
+    let lt : length (t (v .length)) ≡ trailerSize f = length-trailer f (v .request) (v .count) (v .bits) (v .length) in
+    let first : take (start + n - start) (drop start s) ≡ x =
+    ap (λ (k : ℕ). take k (drop start s)) (add-sub-cancel-left start n)
+    ∙ ap (λ (k : ℕ). take k (drop start s)) en ∙ ap (λ (k : ℕ). take (v .length) (drop k s)) es in
     record {
-      sized = ap (λ (k : ℕ). at + k) (length-append x (b ++ l)) ∙ (omega arith);
-      placed = r ∙ both ∙ ap (λ (t : List ℕ). put t (at + (n + 2)) (b ++ l)) m
-          ∙ ap (λ (k : ℕ). put (put d at x) (at + k) (b ++ l)) gap ∙ put-put d at x (b ++ l) (omega arith);
+      sized = ap (λ (k : ℕ). at + k) (length-append x (t (v .length))) ∙ (omega arith);
+      placed = p ∙ ap (λ (y : List ℕ). put d at (y ++ t (length y))) first ∙ ap (λ (k : ℕ). put d at (x ++ t k)) lx;
     }
 
 -- ---- the loop
@@ -181,19 +153,22 @@ module _ (from to : Form) (s d : List ℕ) (n end : ℕ) where
 
     -- the entry that was found, as the code has it: it stands in the record, and there is room for it
     pub record Found (v : Located) : Type 0 where
-      pub inside : v .start + v .length + 2 ≤ length s
+      pub long : 20 ≤ v .length
+      pub inside : v .start + v .length ≤ length s
       pub room : v .length + trailerSize to ≤ at
       pub lower : v .start ≤ place
 
     pub found : (v : Located) → 0 < left → stepOf from (entryBefore from s place) place ≡ step.Entry v → Found v
     found v h q =
         let e = last h in
+        let x = e .entry in
         let is = next-found from s (w .es) (w .is) place left (w .later) e v q in
-        let l : v .length ≡ length (e .entry .frame) = ap (λ (x : Located). x .length) is in
-        let t : v .start ≡ length (entriesBytes from (e .before)) = ap (λ (x : Located). x .start) is in
+        let l : v .length ≡ length (x .frame) = ap (λ (y : Located). y .length) is in
+        let t : v .start ≡ length (entriesBytes from (e .before)) = ap (λ (y : Located). y .start) is in
         let z = length-at to (w .es) (e .before) (e .entry) (w .later) (e .joined) in
         let y = next-long from s (w .es) (w .is) place left (w .later) e in
         record {
+          long = omega (arith, in-range-of (x .request) (x .count) (x .bits) (length (x .frame)) (e .ranges) .2);
           inside = omega arith;
           room = omega (arith, w .text .sized, w .ends);
           lower = omega (arith, e .ends);
@@ -201,24 +176,20 @@ module _ (from to : Form) (s d : List ℕ) (n end : ℕ) where
 
     -- what is put is the entry in the other form
     pub carried : (v : Located) → 0 < left → stepOf from (entryBefore from s place) place ≡ step.Entry v → (after2 : List ℕ) (r : ℕ)
-        → Placed after after2 r at (take (v .length + 2) (drop (v .start) s) ++ (big (bitsSize to) (v .bits) ++ big 2 (v .length)))
+        → Placed after after2 r at
+        (take (v .length) (drop (v .start) s) ++ trailerBytes to (v .request) (v .count) (v .bits) (v .length))
         → end ≤ length d → Carrying from to s d after2 n end r (v .start) (left - 1)
-    unfolding entriesBytes
+    unfolding entriesBytes entryBytes trailer
     carried v h q after2 r p m =
         let e = last h in
         let x : RecordEntry = e .entry in
         let is = next-found from s (w .es) (w .is) place left (w .later) e v q in
         let st : v .start ≡ length (entriesBytes from (e .before)) = ap (λ (y : Located). y .start) is in
         let words : Located → List ℕ =
-        λ y. take (y .length + 2) (drop (y .start) s) ++ (big (bitsSize to) (y .bits) ++ big 2 (y .length)) in
-        let copied : take (length (x .frame) + 2) (drop (length (entriesBytes from (e .before))) s)
-        ≡ x .frame ++ (x .request ∷ x .count ∷ []) =
-        next-bytes from s (w .es) (w .is) place left (w .later) e (length (x .frame) + 2) (x .frame ++ (x .request ∷ x .count ∷ []))
-        (big (bitsSize from) (x .bits) ++ big 2 (length (x .frame))) (entry-split from x)
-        (length-append (x .frame) (x .request ∷ x .count ∷ [])) in
-        let whole : words v ≡ entryBytes to x =
-        ap words is ∙ ap (λ (y : List ℕ). y ++ (big (bitsSize to) (x .bits) ++ big 2 (length (x .frame)))) copied
-        ∙ sym (entry-split to x) in
+        λ y. take (y .length) (drop (y .start) s) ++ trailerBytes to (y .request) (y .count) (y .bits) (y .length) in
+        let copied : take (length (x .frame)) (drop (length (entriesBytes from (e .before))) s) ≡ x .frame =
+        next-bytes from s (w .es) (w .is) place left (w .later) e (length (x .frame)) (x .frame) (trailer from x) refl refl in
+        let whole : words v ≡ entryBytes to x = ap words is ∙ ap (λ (y : List ℕ). y ++ trailer to x) copied in
         record {
           es = w .es;
           read = w .read;
@@ -247,16 +218,16 @@ module _ (from to : Form) (s d : List ℕ) (n end : ℕ) where
 -- ---- the whole
 
 -- the end and then the entries, put into a buffer, are the record
-made : (f : Form) (d : List ℕ) (es : List RecordEntry) (at : ℕ) (end : List ℕ) → length (recordBytes f es) ≤ length d
-    → at + endSize f ≡ length (recordBytes f es) → end ≡ endBytes f (length es)
-    → put (put d at end) 0 (entriesBytes f es) ≡ recordBytes f es ++ drop (length (recordBytes f es)) d
+made : (f : Form) (d : List ℕ) (es : List RecordEntry) (at : ℕ) → length (recordBytes f es) ≤ length d
+    → at + endSize f ≡ length (recordBytes f es)
+    → put (put d at (endBytes f (length es))) 0 (entriesBytes f es) ≡ recordBytes f es ++ drop (length (recordBytes f es)) d
 unfolding recordBytes
-made f d es at end h a e =
+made f d es at h a =
     let x : List ℕ = entriesBytes f es in
-    let l : length end ≡ endSize f = ap length e ∙ length-end f (length es) in
-    let z : length (x ++ endBytes f (length es)) ≡ length x + endSize f = length-record f es in
-    let p : put (put d at end) 0 x ≡ put d 0 (x ++ end) = put-before d 0 at x end (omega arith) (omega arith) in
-    p ∙ ap (λ (y : List ℕ). put d 0 (x ++ y)) e ∙ put-first d (x ++ endBytes f (length es))
+    let y : List ℕ = endBytes f (length es) in
+    let l : length y ≡ endSize f = length-end f (length es) in
+    let z : length (x ++ y) ≡ length x + endSize f = length-record f es in
+    put-before d 0 at x y (omega arith) (omega arith) ∙ put-first d (x ++ y)
 
 module _ (from to : Form) (s out : List ℕ) where
   pub move-none : readRecord from s ≡ none → (refused 7 ≡ moveAnswer from to s out) × (out ≡ moveBuffer from to s out)
@@ -306,12 +277,12 @@ module _ (from to : Form) (s out : List ℕ) where
         }
 
     -- the end and the entries, put one after the other, are the moved record
-    pub move-made : (at : ℕ) (end : List ℕ) → length (recordBytes to (w .es)) ≤ length out → length (recordBytes to (w .es)) ≤ 65536
-        → at + endSize to ≡ length (recordBytes to (w .es)) → end ≡ endBytes to n
+    pub move-made : (at : ℕ) → length (recordBytes to (w .es)) ≤ length out → length (recordBytes to (w .es)) ≤ 65536
+        → at + endSize to ≡ length (recordBytes to (w .es))
         → (accepted (length (recordBytes to (w .es))) ≡ moveAnswer from to s out)
-        × (put (put out at end) 0 (entriesIn from to s) ≡ moveBuffer from to s out)
+        × (put (put out at (endBytes to n)) 0 (entriesIn from to s) ≡ moveBuffer from to s out)
     unfolding moveAnswer moveBuffer moveFits
-    move-made at end h k a e =
+    move-made at h k a =
         let x = le-leb (length (recordBytes to (w .es))) (length out) h in
         let y = le-leb (length (recordBytes to (w .es))) 65536 k in
-        (rw (w .read) (simp (x, y)), rw (w .read) (simp (x, y) (made to out (w .es) at end h a (e ∙ ap (endBytes to) (w .counted)))))
+        (rw (w .read) (simp (x, y)), rw (w .read, w .counted) (simp (x, y) (made to out (w .es) at h a)))

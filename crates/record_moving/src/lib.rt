@@ -5,21 +5,21 @@ ghost use mathlib.Core.Path.{_≡_};
 ghost use mathlib.Core.List.{_++_};
 ghost use Prim.Native.Nat.{_+_, _*_, _≤_};
 ghost use lib.ListN.{length, take, drop};
-ghost use Rattle.record_forms.specs.Forms.{bitsSize, trailerSize, endSize};
+ghost use Rattle.record_forms.specs.Forms.{trailerSize, endSize};
 ghost use Rattle.record_forms.specs.declared.Form.the-variants.{One, Two};
 ghost use Rattle.record_answers.specs.Answers.{movedAnswer};
-ghost use Rattle.record_bytes.specs.Layout.{big};
+ghost use Rattle.record_bytes.specs.Layout.{trailerBytes};
 ghost use Rattle.record_bytes.specs.Steps.{Whole, put, Placed};
 ghost use Rattle.record_moving.specs.Moving.{entriesIn, moveAnswer, moveBuffer};
 pub use record_answers::Moved;
 use record_bytes::Located;
 use record_bytes::Step;
 use record_bytes::Walked;
-use record_bytes::copy_in;
-use record_bytes::end_number;
 use record_bytes::entry_before;
 use record_bytes::walk;
 use record_forms::Form;
+use record_putting::put_end;
+use record_putting::put_entry;
 use widening::wide2;
 use widening::wide4;
 
@@ -34,46 +34,29 @@ fn length_in(from: Form, to: Form, used: usize, n: usize) -> usize
     frames + (n * to.trailer() + to.end())
 }
 
-// A number in two bytes.
-fn two(n: u16) -> [u8; 2]
-    ensures { λ r. ⌜ r ≡ big 2 n ⌝ }
-{
-    let high = n / 256;
-    [(high % 256) as u8, (n % 256) as u8]
-}
-
-// Puts an entry's bits from a place on, where the form has them.
-fn put_bits(form: Form, out: &mut [u8], at: usize, bits: u16)
-    requires { ⌜ at + 2 ≤ length (now out) ⌝ }
-    ensures { λ _. ⌜ now (out .exit) ≡ put (now (out .entry)) at (big (bitsSize form) bits) ⌝ }
-{
-    match form {
-        Form::One => {}
-        Form::Two => {
-            let b = two(bits);
-            copy_in(out, at, &b);
-        }
-    }
-}
-
-// Puts an entry, of which frame, request and count are copied as they stand, so that it ends before `end`; answers where it starts.
-fn put_entry(form: Form, bytes: &[u8], e: Located, out: &mut [u8], end: usize) -> usize
-    requires { ⌜ e .start + e .length + 2 ≤ length (now bytes) ⌝ }
+// Puts an entry with its frame as it stands, so that it ends before `end`; answers where it starts.
+fn put_before(form: Form, bytes: &[u8], e: Located, out: &mut [u8], end: usize) -> usize
+    requires { ⌜ 16 ≤ e .length ⌝ }
+    requires { ⌜ e .start + e .length ≤ length (now bytes) ⌝ }
     requires { ⌜ e .length + trailerSize form ≤ end ⌝ }
     requires { ⌜ end ≤ length (now out) ⌝ }
     ensures { λ r. ⌜
         Placed (now (out .entry)) (now (out .exit)) r end
-        (take (e .length + 2) (drop (e .start) (now (bytes .entry))) ++ (big (bitsSize form) (e .bits) ++ big 2 (e .length)))
+        (take (e .length) (drop (e .start) (now (bytes .entry))) ++ trailerBytes form (e .request) (e .count) (e .bits) (e .length))
         ⌝ }
 {
-    let length = wide2(e.length);
+    let size = wide2(e.length);
     let start = wide4(e.start);
-    let at = end - (length + form.trailer());
-    let split = start + (length + 2);
-    copy_in(out, at, &bytes[start..split]);
-    put_bits(form, out, at + (length + 2), e.bits);
-    let l = two(e.length);
-    copy_in(out, end - 2, &l);
+    let at = end - (size + form.trailer());
+    put_entry(
+        form,
+        out,
+        at,
+        &bytes[start..start + size],
+        e.request,
+        e.count,
+        e.bits,
+    );
     at
 }
 
@@ -93,7 +76,7 @@ fn put_entries(from: Form, to: Form, bytes: &[u8], n: usize, out: &mut [u8], end
             return;
         };
         left -= 1;
-        at = put_entry(to, bytes, e, out, at);
+        at = put_before(to, bytes, e, out, at);
         place = wide4(e.start);
     }
 }
@@ -114,10 +97,8 @@ fn moved(from: Form, to: Form, bytes: &[u8], out: &mut [u8]) -> Moved
     if 65536 < used {
         return Moved::NoRoom;
     }
-    let size = to.end();
-    let at = used - size;
-    let end = end_number(n);
-    copy_in(out, at, &end[..size]);
+    let at = used - to.end();
+    put_end(to, out, at, n);
     put_entries(from, to, bytes, wide4(n), out, at);
     Moved::Used(used as u32)
 }

@@ -3,12 +3,14 @@
 // Inner: `silberlaus` stands over it. It asks nothing.
 ghost use mathlib.Core.Path.{_≡_};
 ghost use Rattle.record_forms.specs.declared.Form.the-variants.{Two};
+ghost use Rattle.record_bytes.specs.Located.{nowhere};
 ghost use Rattle.record.specs.Answers.{newNumber, newBuffer, entriesAnswer, entryAnswer, asked, addAnswer, addBuffer};
 ghost use Rattle.record.specs.Meaning.{CountMeans, StoredBy};
 ghost use Rattle.silberlaus_records.specs.Records.{entriesGiven, entryGiven, addedGiven};
 use record::Added;
 use record::Counted;
 use record::Found;
+use record::Located;
 
 // C's silberlaus_entries.
 #[repr(C)]
@@ -66,17 +68,31 @@ pub fn entries(form: u32, bytes: &[u8]) -> SilberlausEntries
     }
 }
 
-// A refusal: its number, and zero in every other field.
-fn no_entry(number: u8) -> SilberlausEntry
-    ensures { λ r. ⌜ r ≡ record { number = number; request = 0; count = 0; length = 0; bits = 0; start = 0 } ⌝ }
+// No entry: zero in every field.
+fn no_entry() -> Located
+    ensures { λ r. ⌜ r ≡ nowhere ⌝ }
+{
+    Located {
+        start: 0,
+        length: 0,
+        request: 0,
+        count: 0,
+        bits: 0,
+    }
+}
+
+// A number with an entry's fields. Every answer is made here, in registers: a refusal that stored zeros by itself would make the
+// compiler load both through memory.
+fn entry_with(number: u8, e: Located) -> SilberlausEntry
+    ensures { λ r. ⌜ entryGiven r ≡ record { number = number; entry = e } ⌝ }
 {
     SilberlausEntry {
         number,
-        request: 0,
-        count: 0,
-        length: 0,
-        bits: 0,
-        start: 0,
+        request: e.request,
+        count: e.count,
+        length: e.length,
+        bits: e.bits,
+        start: e.start,
     }
 }
 
@@ -86,17 +102,10 @@ pub fn entry(form: u32, bytes: &[u8], place: usize) -> SilberlausEntry
 {
     let found = record::entry(form, bytes, place);
     match found {
-        Found::At(e) => SilberlausEntry {
-            number: 0,
-            request: e.request,
-            count: e.count,
-            length: e.length,
-            bits: e.bits,
-            start: e.start,
-        },
-        Found::NoForm => no_entry(1),
-        Found::NotRecord => no_entry(7),
-        Found::NoPlace => no_entry(1),
+        Found::At(e) => entry_with(0, e),
+        Found::NoForm => entry_with(1, no_entry()),
+        Found::NotRecord => entry_with(7, no_entry()),
+        Found::NoPlace => entry_with(1, no_entry()),
     }
 }
 

@@ -1,8 +1,7 @@
--- `record::add` meets its contract. `may` and `whole` are what the tests and the walk have shown where bytes are written.
--- Assumes nothing.
+-- `record::add` meets its contract. `may` and `whole` are what the tests and the walk have shown where bytes are written. Assumes nothing.
 use mathlib.Core.Path.{_≡_, refl, sym, ap, _∙_, subst}
 use mathlib.Core.Bool.{Bool, true, false}
-use mathlib.Core.List.{List, _++_}
+use mathlib.Core.List.{List}
 use Prim.Native.Nat.{ℕ, _+_, _-_, _≤_}
 use native.Mathlib.Omega.{arith}
 use lib.ListN.{length, take}
@@ -10,11 +9,12 @@ use lib.Seq.{length-take-le}
 use denote.Ref.{now}
 use Rattle.record_forms.specs.declared.Form.the-variants as form
 use Rattle.record_bytes.specs.declared.Walked.the-variants as walked
-use Rattle.record_bytes.specs.Layout.{RecordEntry}
+use Rattle.record_forms.specs.Forms.{endSize}
+use Rattle.record_bytes.specs.Layout.{RecordEntry, trailer, entryBytes}
 use Rattle.record_bytes.specs.Reading.{readRecord}
 use Rattle.record_answers.specs.Answers.{accepted, refused}
 use Rattle.record.specs.Answers.{mayAdd, hasRoom, addAnswer, addBuffer}
-use Rattle.record_bytes.specs.Steps.{walkOf, put, tailOf}
+use Rattle.record_bytes.specs.Steps.{walkOf, put}
 use Rattle.record.specs.Meaning.{Stored}
 use Rattle.record_bytes.proofs.Numbers.{Bytes}
 use Rattle.record.proofs.Theorems.{add-stores}
@@ -29,7 +29,7 @@ use Rattle.record.proofs.Adding.{
   add-none,
   add-full,
   add-stored,
-  length-tail,
+  put-added,
 }
 use borrow.Author.Needs.{needs}
 use Rattle.record.proofs.add.Statement.{statement}
@@ -129,39 +129,62 @@ returns-3 c =
     (omega (arith, c .before .before .trailer .ensures))) in
     (r .0, (r .1, refl))
 
-add-tail : tie.Need-add-tail
-add-tail c =
-    let k = known (c .before .before .before) in
-    let a = ok (test-of (c .before .before .before)) in
-    omega arith
-
-tail-requires : tie.Need-tail-requires
-tail-requires c κs =
-    let a = ok (test-of (c .before .before .before)) in
-    (omega arith, omega arith)
-
-sub-put-added : tie.Need-sub-put-added
-sub-put-added c =
-    let k = known (c .before .before .before .before .before .before) in
+sub-at : tie.Need-sub-at
+sub-at c =
+    let k = known (c .before .before .before .before) in
     omega (arith, c .end .ensures)
 
-put-added-requires : tie.Need-put-added-requires
-put-added-requires c κs =
-    let e = c .before in
-    let d = e .before .before in
+cast-put-entry : tie.Need-cast-put-entry
+cast-put-entry c =
+    let a = ok (test-of (c .before .before .before .before .before)) in
+    omega arith
+
+cast-put-entry-2 : tie.Need-cast-put-entry-2
+cast-put-entry-2 c =
+    let a = ok (test-of (c .before .before .before .before .before)) in
+    omega arith
+
+cast-put-entry-3 : tie.Need-cast-put-entry-3
+cast-put-entry-3 c =
+    let a = ok (test-of (c .before .before .before .before .before)) in
+    omega arith
+
+put-entry-requires : tie.Need-put-entry-requires
+put-entry-requires c κs =
+    let d = c .before in
     let k = known (d .before .before .before .before) in
     let a = ok (test-of (d .before .before .before .before)) in
-    let x = e .end .ensures in
+    let x = d .end .ensures in
     let t = d .before .before .before .trailer .ensures in
-    let l : length (d .tail .result) ≡ 11 = ap length (d .tail .ensures) ∙ length-tail form.Two _ _ _ _ _ in
-    (l, (omega arith, omega arith))
+    (omega arith, (omega arith, omega arith))
+
+add-put-end : tie.Need-add-put-end
+add-put-end c =
+    let d = c .before .before .before .before .before .before in
+    let k = known (d .before .before .before .before) in
+    let a = ok (test-of (d .before .before .before .before)) in
+    omega arith
+
+-- from the entry that is put back to the walk
+abbrev walk-of : tie.After-put-entry → tie.After-known-told
+walk-of c = c .before .before .before .before .before .before
+
+entry-put : (c : tie.After-put-entry) → let s = call-of (test-of (walk-of c)) in
+    c .put-entry .last .1 .0 ≡ put (lent s) (s .args .used - endSize form.Two) (entryBytes form.Two (given s))
+unfolding entryBytes trailer
+entry-put c =
+    let s = call-of (test-of (walk-of c)) in
+    c .put-entry .ensures
+    ∙ ap (λ (x : ℕ). put (lent s) (s .args .used - x) (entryBytes form.Two (given s))) (c .before .before .end .ensures)
 
 returns-4 : tie.Need-returns-4
 returns-4 c =
-    let e = c .before .before .before .before in
+    let p = c .before .before in
+    let e = p .before .before .before .before .before in
     let d = e .before .before in
-    let k = d .before .before .before .before in
+    let k = walk-of e in
     let six = d .before .before .before .trailer in
+    let five = p .before .end2 .ensures in
     let s = call-of (test-of k) in
     let used = s .args .used in
     let frame = now (s .args .frame) in
@@ -174,11 +197,11 @@ returns-4 c =
     let kept = add-stores form.Two (lent s) used (given s) (s .args .length) (may (test-of k)) (bytes (test-of k)) n v (whole k)
     (room-yes form.Two (lent s) used (given s) (s .args .length) room small) small in
     let next : used + length frame + six .result ≡ used + length frame + 6 = ap (λ (x : ℕ). used + length frame + x) (six .ensures) in
-    let after = c .before .before .put-added .last .0 in
-    let rest : List ℕ = tailOf form.Two (s .args .request) (s .args .count) (s .args .bits) (s .args .length) (n + 1) in
-    let left = c .before .before .put-added .ensures
-    ∙ ap (λ (l : List ℕ). put (lent s) (used - e .end .result) (frame ++ l)) (d .tail .ensures)
-    ∙ ap (λ (x : ℕ). put (lent s) (used - x) (frame ++ rest)) (e .end .ensures) ∙ stored .1 in
+    let least = known k .0 in
+    let after = p .put-end .last .1 .0 in
+    let left = put-added form.Two (lent s) (e .put-entry .last .1 .0) after (used - endSize form.Two)
+    (used + length frame + six .result - p .before .end2 .result) n (given s) (omega (arith, six .ensures))
+    (omega (arith, six .ensures)) (entry-put e) (p .put-end .ensures) ∙ stored .1 in
     (ap accepted next ∙ stored .0, (left, subst (λ (x : ℕ). Stored form.Two (lent s) after used x (given s)) (sym next) (rw left kept)))
 
 returns-5 : tie.Need-returns-5
@@ -193,5 +216,6 @@ add-spec =
     (tie.spec
     (λ c κs. search needs) slice-reshare-prefix-walk slice-aggregate-walk (λ c κs. search needs) (λ c. search needs)
     (λ c. search needs) (λ c. search needs) returns add-end (λ c κs. search needs) add-end-2 (λ c. search needs)
-    returns-2 (λ c. search needs) returns-3 add-tail tail-requires (λ c κs. search needs) sub-put-added
-    (λ c. search needs) put-added-requires (λ c. search needs) (λ c. search needs) returns-4 returns-5)
+    returns-2 (λ c. search needs) returns-3 (λ c κs. search needs) sub-at cast-put-entry cast-put-entry-2
+    cast-put-entry-3 put-entry-requires (λ c κs. search needs) (λ c. search needs) add-put-end (λ c κs. search needs)
+    (λ c. search needs) (λ c. search needs) returns-4 returns-5)

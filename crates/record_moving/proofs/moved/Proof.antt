@@ -1,20 +1,16 @@
 -- `record_moving::moved` meets its contract: the length is that of the moved record, and its end and its entries are put. Assumes nothing.
 use mathlib.Core.Path.{_≡_, sym, ap, _∙_, subst}
 use mathlib.Core.List.{List}
-use Prim.Native.Nat.{ℕ, _-_, _≤_}
+use Prim.Native.Nat.{ℕ, _-_}
 use native.Mathlib.Omega.{arith}
-use lib.ListN.{length, take}
-use lib.Seq.{length-take-le}
+use lib.ListN.{length}
 use denote.Ref.{now}
-use Rattle.record_forms.specs.declared.Form.the-variants as form
-use Rattle.record_forms.specs.Forms.{endSize}
-use Rattle.record_forms.proofs.Sizes.{mark-most}
 use Rattle.record_bytes.specs.Layout.{endBytes}
 use Rattle.record_bytes.specs.Steps.{Whole, put}
 use Rattle.record_answers.specs.Answers.{accepted}
 use Rattle.record_moving.specs.Moving.{entriesIn}
 use Rattle.record_bytes.proofs.Numbers.{Bytes}
-use Rattle.record_bytes.proofs.Inverse.{length-end, end-of}
+use Rattle.record_bytes.proofs.Inverse.{length-end}
 use Rattle.record_bytes.proofs.Walking.{whole-read, none-read}
 use Rattle.record_bytes.proofs.Putting.{length-put}
 use Rattle.record_moving.proofs.Carrying.{move-none, move-short, move-long, Sized, beside-frames, sized, move-made}
@@ -74,68 +70,45 @@ returns-3 c =
 sub-at : tie.Need-sub-at
 sub-at c = omega (arith, c .end .ensures, long (c .before .before .before) .front)
 
--- every form's end is within form 2's
-within : (c : tie.After-end-number) → c .before .end .result ≤ length (c .end-number .result)
-within c =
-    let f = call (c .before .before .before .before .before) .args .to in
-    let l : length (c .end-number .result) ≡ 5 = ap length (c .end-number .ensures) ∙ length-end form.Two _ in
-    omega (arith, c .before .end .ensures, mark-most f)
-
-part : (c : tie.After-end-number) → length (take (c .before .end .result) (c .end-number .result)) ≡ c .before .end .result
-part c = length-take-le (c .before .end .result) (c .end-number .result) (within c)
-
-array-share-prefix-end : tie.Need-array-share-prefix-end
-array-share-prefix-end c = within (c .before)
-
-slice-aggregate-copy-in : tie.Need-slice-aggregate-copy-in
-slice-aggregate-copy-in c = sym (part (c .before .before))
-
-copy-in-requires : tie.Need-copy-in-requires
-copy-in-requires c κs =
-    let e = c .before .before in
-    let k = e .before .before .before .before in
-    let p = part e in
-    let n = e .before .end .ensures in
-    let z = long k .front in
-    omega (arith, e .before .before .before .if1 .left)
+put-end-requires : tie.Need-put-end-requires
+put-end-requires c κs =
+    let e = c .before in
+    let k = e .before .before .before in
+    omega (arith, e .end .ensures, long k .front, e .before .before .if1 .left)
 
 put-entries-requires : tie.Need-put-entries-requires
 put-entries-requires c κs =
-    let e = c .before .before .before .before .before .before .before in
-    let k = e .before .before .before .before in
+    let p = c .before .before .before .before in
+    let e = p .before .before in
+    let k = e .before .before .before in
     let a = call (k .before) .args in
-    let o = c .before .before .before .before .copy-in in
     let front = long k .front in
-    let size = e .before .end .ensures in
-    let p = part e in
-    let room = e .before .before .before .if1 .left in
-    let l : length (o .last .0) ≡ length (now (a .out)) = ap length (o .ensures) ∙ length-put (now (a .out)) _ _ (omega arith) in (
+    let size = e .end .ensures in
+    let room = e .before .before .if1 .left in
+    let m = length-end (a .to) (k .before .before .before .walked .given .0 .0) in
+    let l : length (p .put-end .last .1 .0) ≡ length (now (a .out)) =
+    ap length (p .put-end .ensures) ∙ length-put (now (a .out)) _ _ (omega arith) in (
       subst (Whole (a .from) (now (a .bytes))) (k .before .wide4 .ensures ∙ sym (c .before .wide42 .ensures)) (whole (k .before)),
       (omega arith, omega arith),
     )
 
 returns-4 : tie.Need-returns-4
 returns-4 c =
-    let e = c .before .before .before .before .before .before .before .before .before .before in
-    let k = e .before .before .before .before in
+    let p = c .before .before .before .before .before .before .before in
+    let e = p .before .before in
+    let k = e .before .before .before in
     let a = call (k .before) .args in
     let f = a .to in
-    let used = k .length-in .result in
-    let at = used - e .before .end .result in
-    let o = c .before .before .before .before .before .before .before .copy-in in
+    let at = k .length-in .result - e .end .result in
     let z = long k in
     let n = k .before .wide4 in
-    let size = e .before .end .ensures in
+    let size = e .end .ensures in
     let front = z .front in
-    let end : take (e .before .end .result) (e .end-number .result) ≡ endBytes f (n .result) =
-    ap (λ (i : ℕ). take i (e .end-number .result)) size ∙ ap (take (endSize f)) (e .end-number .ensures) ∙ end-of f _
-    ∙ ap (endBytes f) (sym (n .ensures)) in
     let m = move-made (a .from) f (now (a .bytes)) (now (a .out)) (n .result) (whole (k .before)) at
-    (take (e .before .end .result) (e .end-number .result)) (omega (arith, e .before .before .before .if1 .left, z .long))
-    (omega (arith, e .before .before .if2 .left, z .long)) (omega (arith, z .long)) end in (
+    (omega (arith, e .before .before .if1 .left, z .long)) (omega (arith, e .before .if2 .left, z .long)) (omega (arith, z .long)) in (
       ap accepted (z .long) ∙ m .0,
-      c .before .before .put-entries .ensures
-          ∙ ap (λ (l : List ℕ). put l 0 (entriesIn (a .from) f (now (a .bytes)))) (o .ensures) ∙ m .1,
+      c .before .before .put-entries .ensures ∙ ap (λ (l : List ℕ). put l 0 (entriesIn (a .from) f (now (a .bytes))))
+          (p .put-end .ensures ∙ ap (λ (i : ℕ). put (now (a .out)) at (endBytes f i)) (sym (n .ensures))) ∙ m .1,
     )
 
 pub moved-spec : {M : Type 1} → statement M
@@ -143,6 +116,5 @@ moved-spec =
     tie.close
     (tie.spec
     (λ c κs. search needs) (λ c. search needs) (λ c. search needs) returns (λ c κs. search needs) length-in-requires
-    returns-2 returns-3 (λ c κs. search needs) sub-at (λ c κs. search needs) array-share-prefix-end
-    slice-aggregate-copy-in copy-in-requires (λ c κs. search needs) put-entries-requires (λ c. search needs)
-    (λ c. search needs) returns-4)
+    returns-2 returns-3 (λ c κs. search needs) sub-at put-end-requires (λ c κs. search needs) put-entries-requires
+    (λ c. search needs) (λ c. search needs) returns-4)

@@ -58,8 +58,8 @@ returns c =
     absurd (not-broken (a .from) (a .to) (now (a .bytes)) (now (a .out)) (a .n) (a .end) (l .out) (l .at) (l .place) (l .left) (l .inv .0)
     (omega arith) (sym (c .before .before .entry-before .ensures) ∙ c .enum-told .given .1))
 
-put-entry-requires : tie.Need-put-entry-requires Inv-loop μ-loop
-put-entry-requires c κs =
+put-before-requires : tie.Need-put-before-requires Inv-loop μ-loop
+put-before-requires c κs =
     let q = c .before .before .before .before .before .before in
     let s = q .before .before .before .before in
     let a = s .args in
@@ -67,7 +67,7 @@ put-entry-requires c κs =
     let f = found (a .from) (a .to) (now (a .bytes)) (now (a .out)) (a .n) (a .end) (l .out) (l .at) (l .place) (l .left) (l .inv .0)
     (c .before .before .step .given .0 .0) (omega arith)
     (sym (c .before .before .before .before .entry-before .ensures) ∙ c .before .before .step .given .1) in
-    (f .inside, (f .room, omega (arith, l .inv .1, l .inv .3, s .pre .1 .1)))
+    (omega (arith, f .long), (f .inside, (f .room, omega (arith, l .inv .1, l .inv .3, s .pre .1 .1))))
 
 loop-less : tie.Need-loop-less Inv-loop μ-loop
 loop-less c =
@@ -81,7 +81,7 @@ loop-again c =
     let a = s .args in
     let l = q .loop in
     let v = c .before .before .before .before .before .before .step .given .0 .0 in
-    let p = c .before .before .before .put-entry in
+    let p = c .before .before .before .put-before in
     let step = sym (c .before .before .before .before .before .before .before .before .entry-before .ensures)
     ∙ c .before .before .before .before .before .before .step .given .1 in
     let more = c .before .before .before .before .before .before .before .before .before .loop-test .taken in
@@ -111,5 +111,5 @@ put-entries-spec =
     tie.close
     (tie.spec
     Inv-loop μ-loop (λ c κs. search needs) sub-place loop-holds entry-before-requires (λ c. search needs)
-    (λ c. search needs) same-length returns (λ c. search needs) put-entry-requires (λ c κs. search needs) loop-less
+    (λ c. search needs) same-length returns (λ c. search needs) put-before-requires (λ c κs. search needs) loop-less
     loop-again same-length-2 returns-2)

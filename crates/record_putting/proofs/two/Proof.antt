@@ -1,9 +1,9 @@
--- `record_moving::two` meets its contract. Assumes nothing.
+-- `record_putting::two` meets its contract. Assumes nothing.
 use mathlib.Core.Path.{refl}
 use Rattle.record_bytes.specs.Layout.{big}
 use borrow.Author.Needs.{needs}
-use Rattle.record_moving.proofs.two.Statement.{statement}
-use Rattle.record_moving.proofs.two.Tie as tie
+use Rattle.record_putting.proofs.two.Statement.{statement}
+use Rattle.record_putting.proofs.two.Tie as tie
 
 returns : tie.Need-returns
 unfolding big

@@ -1,14 +1,14 @@
--- `record_moving::put_bits` meets its contract, form by form. Assumes nothing.
+-- `record_putting::put_bits` meets its contract, form by form. Assumes nothing.
 use mathlib.Core.Path.{sym, ap, _∙_}
 use denote.Ref.{now}
 use Rattle.record_forms.specs.Forms.{bitsSize}
 use Rattle.record_forms.specs.declared.Form.{Form}
 use Rattle.record_bytes.specs.Layout.{big}
 use Rattle.record_bytes.specs.Steps.{put}
-use Rattle.record_moving.proofs.Carrying.{put-none}
+use Rattle.record_putting.proofs.Parts.{put-none}
 use borrow.Author.Needs.{needs}
-use Rattle.record_moving.proofs.put_bits.Statement.{statement}
-use Rattle.record_moving.proofs.put_bits.Tie as tie
+use Rattle.record_putting.proofs.put_bits.Statement.{statement}
+use Rattle.record_putting.proofs.put_bits.Tie as tie
 
 returns : tie.Need-returns
 unfolding big
