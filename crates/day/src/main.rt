@@ -1,6 +1,7 @@
 // Walks the path of the speech on the sample on standard input: each frame is protected in a slot, the slot is changed by a fixed
-// rule, unprotected, read and stored in a record; then says what happened. It stands over `day_way`, which walks, `day_report`, which
-// words what was counted, and the C library's read and write, whose effects no contract covers. What goes wrong is said on standard error.
+// rule, unprotected, read and stored in a record; then says what happened. It stands over `day_page`, which walks and
+// words what happened, and the C library's read and write, whose effects no contract covers. What goes wrong is said on standard error.
+use day_page::Page;
 use day_sample::sample;
 use day_sample::sample::Surveyed;
 use input::Input;
@@ -8,7 +9,6 @@ use libc::STDERR_FILENO;
 use libc::STDIN_FILENO;
 use libc::STDOUT_FILENO;
 use record::Made;
-use record_listing::Listed;
 
 fn main() {
     let mut bytes = [0u8; 65537];
@@ -63,16 +63,8 @@ fn show(
     text: &mut [u8],
     lines: &mut [u8],
 ) -> bool {
-    let t = day_way::walk(sample, buffer, 5);
-    let end = day_report::report(text, frames, buffer.len(), t);
-    let used = t.used;
-    // Never taken: an entry is stored only where there is room for it.
-    if buffer.len() < used {
-        return false;
-    }
-    let listed = record_listing::list(&buffer[..used], lines);
-    // Never taken: the buffer has the room that every listing fits.
-    let Listed::From(at) = listed else {
+    let page = day_page::fill(sample, frames, buffer, text, lines);
+    let Page::Texts(end, at) = page else {
         return false;
     };
     if io::write_all(STDOUT_FILENO, &text[..end]) {

@@ -1,7 +1,7 @@
 // The session record of documents 01 and 02 in its two forms: entries of a frame, a request, a count and bits, one after the other, then
-// their number. It stands over `record_bytes`, and its answers are those of `record_answers`. Each public function is total and equals its
-// definition in specs/Answers.antt, the lent buffer too; specs/Layout.antt of `record_bytes` says which bytes a list of entries is. Nothing
-// is written before the last test.
+// their number. It stands over `record_bytes`, which reads, and `record_putting`, which writes, and its answers are those of
+// `record_answers`. Each public function is total and equals its definition in specs/Answers.antt, the lent buffer too; specs/Layout.antt
+// of `record_bytes` says which bytes a list of entries is. Nothing is written before the last test.
 ghost use mathlib.Core.Path.{_≡_};
 ghost use Rattle.record_answers.specs.Answers.{madeNumber, countedAnswer, foundAnswer, addedAnswer};
 ghost use Rattle.record_forms.specs.declared.Form.the-variants.{Two};

@@ -2,10 +2,10 @@
 use mathlib.Core.Path.{_≡_, refl, sym, ap, _∙_}
 use mathlib.Core.List.{List, [], _∷_, _++_, append-assoc}
 use Prim.Native.Nat.{ℕ, _+_, _≤_, _<_}
-use native.Mathlib.Nat.{add-assoc}
+use native.Mathlib.Nat.{add-zero, add-assoc}
 use native.Mathlib.Numerals.{add-one}
 use native.Mathlib.Omega.{arith}
-use lib.ListN.{length, take, drop, set, length-append, length-drop}
+use lib.ListN.{length, take, drop, set, length-append, length-drop, take-append-drop}
 use lib.Seq.{paste, set-split, take-take, take-append-le, take-length, take-at, drop-at, drop-drop, length-take-le}
 use Rattle.record_bytes.specs.Steps.{put, Placed}
 
@@ -37,6 +37,11 @@ put-put d at s t h =
     ∙ ap (drop (length t)) dr ∙ drop-drop (length t) (at + length s) d ∙ ap (λ (n : ℕ). drop n d) (add-assoc at (length s) (length t)) in
     rw (tk, dd, length-append) (simp append-assoc)
 
+-- no bytes put change nothing
+pub put-none : (d : List ℕ) (at : ℕ) → d ≡ put d at []
+unfolding put
+put-none d at = sym (ap (λ (k : ℕ). take at d ++ drop k d) (add-zero at) ∙ take-append-drop at d)
+
 -- a byte that is stored is put
 pub set-put : (d : List ℕ) (at x : ℕ) → at < length d → set d at x ≡ put d at (x ∷ [])
 unfolding put
@@ -55,6 +60,9 @@ put-before d q r y x h k =
     ∙ ap (λ (a : List ℕ). take q d ++ (y ++ a)) p
     ∙ ap (λ (n : ℕ). take q d ++ (y ++ (x ++ drop n d))) e
     ∙ ap (λ (a : List ℕ). take q d ++ a) (sym (append-assoc y x (drop (q + length (y ++ x)) d)))
+
+pub placed-none : (d : List ℕ) (end : ℕ) → Placed d d end end []
+placed-none d end = record { sized = add-zero end; placed = put-none d end }
 
 pub placed-length : (d after : List ℕ) (r end : ℕ) (x : List ℕ) → end ≤ length d → Placed d after r end x → length after ≡ length d
 placed-length d after r end x h p =

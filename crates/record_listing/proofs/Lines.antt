@@ -4,11 +4,10 @@ use mathlib.Core.Bool.{Bool, true, false, cond}
 use mathlib.Core.Option.{Option, none, some}
 use mathlib.Core.List.{List, [], _∷_, _++_, append-nil}
 use Prim.Native.Nat.{ℕ, suc, _+_, _*_, _-_, _≤_, _<_}
-use native.Mathlib.Nat.{add-zero}
 use native.Mathlib.Omega.{arith}
 use lib.Seq.{drop-length}
 use lib.Dec.{leb}
-use lib.ListN.{length, take, drop, take-append-drop}
+use lib.ListN.{length, take, drop}
 use borrow.Author.Tests.{le-leb, lt-leb}
 use Rattle.record_forms.specs.declared.Form.{Form}
 use Rattle.record_forms.specs.declared.Form.the-variants as form
@@ -54,7 +53,7 @@ use Rattle.record_bytes.proofs.Standing.{
   next-not-broken,
   next-standing,
 }
-use Rattle.record_bytes.proofs.Putting.{placed-before}
+use Rattle.record_bytes.proofs.Putting.{placed-none, placed-before}
 
 -- ---- one line
 
@@ -96,7 +95,7 @@ module _ (f : Form) (s d : List ℕ) (n : ℕ) where
       (omega (arith, k .counted), r .is .size)
 
   pub lining-start : Bytes s → 65536 ≤ length d → Whole f s n → Lining f s d d (length s - endSize f) n (length d) n
-  unfolding lines put
+  unfolding lines
   lining-start b h k =
       let r = is-read f s (k .es) b (k .read) in
       let z = whole-sized b k in
@@ -107,11 +106,7 @@ module _ (f : Form) (s d : List ℕ) (n : ℕ) where
         is = r;
         later = [];
         standing = standing-start f s (k .es) r n (k .counted);
-        text = record {
-          sized = add-zero (length d);
-          placed = sym
-              (ap (λ (m : ℕ). take (length d) d ++ drop m d) (add-zero (length d)) ∙ take-append-drop (length d) d);
-        };
+        text = placed-none d (length d);
         room = omega (arith, z .0, z .1);
       }
 

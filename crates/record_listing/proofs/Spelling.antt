@@ -2,13 +2,13 @@
 use mathlib.Core.Path.{_≡_, refl, sym, ap, _∙_, subst}
 use mathlib.Core.List.{List, [], _∷_, _++_, append-assoc, append-nil}
 use Prim.Native.Nat.{ℕ, zero, suc, _+_, _*_, _-_, _/_, _%_, _^_, _≤_, _<_}
-use native.Mathlib.Nat.{add-zero, pow-suc, div-lt-iff-lt-mul}
+use native.Mathlib.Nat.{pow-suc, div-lt-iff-lt-mul}
 use native.Mathlib.Omega.{arith}
-use lib.ListN.{length, take, drop, set, length-set, take-append-drop}
+use lib.ListN.{length, set, length-set}
 use borrow.Author.Tests.{ne-eqb}
-use Rattle.record_bytes.specs.Steps.{put, Placed}
+use Rattle.record_bytes.specs.Steps.{Placed}
 use Rattle.record_listing.specs.Listing.{leading, decimal, field}
-use Rattle.record_bytes.proofs.Putting.{set-put, placed-length, placed-before}
+use Rattle.record_bytes.proofs.Putting.{set-put, placed-none, placed-length, placed-before}
 
 -- ---- the digits
 
@@ -41,17 +41,13 @@ shorter rest (suc m) h k =
     (omega arith, rw e d)
 
 pub spelling-start : (d : List ℕ) (end n : ℕ) → end ≤ length d → n < 1000 → Spelling d d end end n n
-unfolding put
 spelling-start d end n h k =
     record {
       text = [];
       fuel = n;
       spelled = append-nil (leading n n);
       enough = omega arith;
-      at-text = record {
-        sized = add-zero end;
-        placed = sym (ap (λ (m : ℕ). take end d ++ drop m d) (add-zero end) ∙ take-append-drop end d);
-      };
+      at-text = placed-none d end;
       room = let e : end + 3 - end ≡ 3 = omega arith in rw e k;
       low = omega arith;
     }

@@ -4,9 +4,9 @@ use mathlib.Core.Bool.{and-false}
 use mathlib.Core.Option.{none, some}
 use mathlib.Core.List.{List, [], _∷_, _++_}
 use Prim.Native.Nat.{ℕ, suc, _+_, _*_, _-_, _≤_, _<_}
-use native.Mathlib.Nat.{add-zero, add-sub-cancel-left, suc-mul, mul-le-mul}
+use native.Mathlib.Nat.{add-sub-cancel-left, suc-mul, mul-le-mul}
 use native.Mathlib.Omega.{arith}
-use lib.ListN.{length, take, drop, length-append, length-drop, take-append-drop}
+use lib.ListN.{length, take, drop, length-append, length-drop}
 use lib.Seq.{length-take-le}
 use borrow.Author.Tests.{le-leb, lt-leb}
 use Rattle.record_forms.specs.declared.Form.{Form}
@@ -27,7 +27,7 @@ use Rattle.record_bytes.specs.Layout.{
 use Rattle.record_bytes.specs.Reading.{entryBefore, readRecord}
 use Rattle.record_bytes.specs.Steps.{stepOf, Whole, put, Placed}
 use Rattle.record_answers.specs.Answers.{accepted, refused}
-use Rattle.record_moving.specs.Moving.{moveFits, moveAnswer, moveBuffer, entriesOf, entriesIn}
+use Rattle.record_moving.specs.Moving.{moveFits, moveAnswer, moveBuffer, entriesAs, movedEntries}
 use Rattle.record_bytes.proofs.Numbers.{Bytes}
 use Rattle.record_bytes.proofs.Inverse.{length-trailer, length-entry, length-end, length-record, count-most, entries-append, Read, is-read}
 use Rattle.record_bytes.proofs.Standing.{
@@ -42,7 +42,7 @@ use Rattle.record_bytes.proofs.Standing.{
   next-long,
   next-bytes,
 }
-use Rattle.record_bytes.proofs.Putting.{put-before, placed-before}
+use Rattle.record_bytes.proofs.Putting.{put-before, placed-none, placed-before}
 
 -- what is put at the start of a buffer
 pub put-first : (d x : List ℕ) → put d 0 x ≡ x ++ drop (length x) d
@@ -128,22 +128,19 @@ pub record Carrying (from to : Form) (s d after : List ℕ) (n end at place left
   pub text : Placed d after at end (entriesBytes to later)
 
 module _ (from to : Form) (s d : List ℕ) (n end : ℕ) where
-  pub carrying-start : Bytes s → Whole from s n → end ≡ length (entriesIn from to s)
+  pub carrying-start : Bytes s → Whole from s n → end ≡ length (movedEntries from to s)
       → Carrying from to s d d n end end (length s - endSize from) n
-  unfolding entriesBytes put
+  unfolding entriesBytes
   carrying-start b w e =
       let r = is-read from s (w .es) b (w .read) in
       record {
         es = w .es;
         read = w .read;
         is = r;
-        ends = e ∙ ap (λ o. length (entriesOf to o)) (w .read);
+        ends = e ∙ ap (λ o. length (entriesAs to o)) (w .read);
         later = [];
         standing = standing-start from s (w .es) r n (w .counted);
-        text = record {
-          sized = add-zero end;
-          placed = sym (ap (λ (m : ℕ). take end d ++ drop m d) (add-zero end) ∙ take-append-drop end d);
-        };
+        text = placed-none d end;
       }
 
   module _ (after : List ℕ) (at place left : ℕ) (w : Carrying from to s d after n end at place left) where
@@ -205,7 +202,7 @@ module _ (from to : Form) (s d : List ℕ) (n end : ℕ) where
     not-broken h q = next-not-broken from s (w .es) (w .is) place left (w .later) (last h) q
 
   pub carried-all : (after : List ℕ) (at place left : ℕ) → left ≡ 0 → Carrying from to s d after n end at place left
-      → after ≡ put d 0 (entriesIn from to s)
+      → after ≡ put d 0 (movedEntries from to s)
   carried-all after at place left z w =
       let v : Carrying from to s d after n end at place 0 = subst (Carrying from to s d after n end at place) z w in
       let a : v .later ≡ v .es = standing-done from s (v .es) (v .is) place (v .later) (v .standing) in
@@ -213,7 +210,7 @@ module _ (from to : Form) (s d : List ℕ) (n end : ℕ) where
       ap (λ (x : List RecordEntry). length (entriesBytes to x)) a in
       let o : at ≡ 0 = omega (arith, v .text .sized, v .ends) in
       v .text .placed ∙ ap (λ (k : ℕ). put d k (entriesBytes to (v .later))) o
-      ∙ ap (λ (x : List RecordEntry). put d 0 (entriesBytes to x)) a ∙ ap (λ o. put d 0 (entriesOf to o)) (sym (v .read))
+      ∙ ap (λ (x : List RecordEntry). put d 0 (entriesBytes to x)) a ∙ ap (λ o. put d 0 (entriesAs to o)) (sym (v .read))
 
 -- ---- the whole
 
@@ -251,7 +248,7 @@ module _ (from to : Form) (s out : List ℕ) where
     -- what the code's length is, and that it can be made
     pub record Sized (used : ℕ) : Type 0 where
       pub long : used ≡ length (recordBytes to (w .es))
-      pub front : length (entriesIn from to s) + endSize to ≡ used
+      pub front : length (movedEntries from to s) + endSize to ≡ used
 
     pub beside-frames : Bytes s → (n * trailerSize from + endSize from ≤ length s) × (length s ≤ 65536) × (n ≤ 65536)
     beside-frames b =
@@ -273,14 +270,14 @@ module _ (from to : Form) (s out : List ℕ) where
         let z : used ≡ length (recordBytes to (w .es)) = omega arith in
         record {
           long = z;
-          front = ap (λ o. length (entriesOf to o) + endSize to) (w .read) ∙ sym (length-record to (w .es)) ∙ sym z;
+          front = ap (λ o. length (entriesAs to o) + endSize to) (w .read) ∙ sym (length-record to (w .es)) ∙ sym z;
         }
 
     -- the end and the entries, put one after the other, are the moved record
     pub move-made : (at : ℕ) → length (recordBytes to (w .es)) ≤ length out → length (recordBytes to (w .es)) ≤ 65536
         → at + endSize to ≡ length (recordBytes to (w .es))
         → (accepted (length (recordBytes to (w .es))) ≡ moveAnswer from to s out)
-        × (put (put out at (endBytes to n)) 0 (entriesIn from to s) ≡ moveBuffer from to s out)
+        × (put (put out at (endBytes to n)) 0 (movedEntries from to s) ≡ moveBuffer from to s out)
     unfolding moveAnswer moveBuffer moveFits
     move-made at h k a =
         let x = le-leb (length (recordBytes to (w .es))) (length out) h in

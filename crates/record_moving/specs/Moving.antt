@@ -33,12 +33,12 @@ unfoldable pub moveBuffer : Form → Form → List ℕ → List ℕ → List ℕ
 moveBuffer from to s out = movedOf to (readRecord from s) out
 
 -- the bytes of what was read, in the other form
-abbrev pub entriesOf : Form → Option (List RecordEntry) → List ℕ
-entriesOf to none = []
-entriesOf to (some es) = entriesBytes to es
+abbrev pub entriesAs : Form → Option (List RecordEntry) → List ℕ
+entriesAs to none = []
+entriesAs to (some es) = entriesBytes to es
 
-abbrev pub entriesIn : Form → Form → List ℕ → List ℕ
-entriesIn from to s = entriesOf to (readRecord from s)
+abbrev pub movedEntries : Form → Form → List ℕ → List ℕ
+movedEntries from to s = entriesAs to (readRecord from s)
 
 -- "every entry's bits are unknown"
 abbrev pub AllUnknown : List RecordEntry → Type 0

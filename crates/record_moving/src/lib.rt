@@ -1,6 +1,7 @@
 // A session record moved from one form to the other, into a second lent buffer: one walk from the end back counts its entries, a second
-// writes them from the end of what is written back. It stands over `record_bytes`, and its answers are those of `record_answers`. Both
-// public functions are total and equal their definition in specs/Moving.antt, the lent buffer too. Nothing is written before the last test.
+// writes them from the end of what is written back. It stands over `record_bytes` and `record_putting`, and its answers are those of
+// `record_answers`. Both public functions are total and equal their definition in specs/Moving.antt, the lent buffer too. Nothing is
+// written before the last test.
 ghost use mathlib.Core.Path.{_≡_};
 ghost use mathlib.Core.List.{_++_};
 ghost use Prim.Native.Nat.{_+_, _*_, _≤_};
@@ -10,7 +11,7 @@ ghost use Rattle.record_forms.specs.declared.Form.the-variants.{One, Two};
 ghost use Rattle.record_answers.specs.Answers.{movedAnswer};
 ghost use Rattle.record_bytes.specs.Layout.{trailerBytes};
 ghost use Rattle.record_bytes.specs.Steps.{Whole, put, Placed};
-ghost use Rattle.record_moving.specs.Moving.{entriesIn, moveAnswer, moveBuffer};
+ghost use Rattle.record_moving.specs.Moving.{movedEntries, moveAnswer, moveBuffer};
 pub use record_answers::Moved;
 use record_bytes::Located;
 use record_bytes::Step;
@@ -63,9 +64,9 @@ fn put_before(form: Form, bytes: &[u8], e: Located, out: &mut [u8], end: usize) 
 // Puts the entries of a record of n entries so that they end before `end`, the youngest first.
 fn put_entries(from: Form, to: Form, bytes: &[u8], n: usize, out: &mut [u8], end: usize)
     requires { ⌜ Whole from (now bytes) n ⌝ }
-    requires { ⌜ end ≡ length (entriesIn from to (now bytes)) ⌝ }
+    requires { ⌜ end ≡ length (movedEntries from to (now bytes)) ⌝ }
     requires { ⌜ end ≤ length (now out) ⌝ }
-    ensures { λ _. ⌜ now (out .exit) ≡ put (now (out .entry)) 0 (entriesIn from to (now (bytes .entry))) ⌝ }
+    ensures { λ _. ⌜ now (out .exit) ≡ put (now (out .entry)) 0 (movedEntries from to (now (bytes .entry))) ⌝ }
 {
     let mut at = end;
     let mut place = bytes.len() - from.end();

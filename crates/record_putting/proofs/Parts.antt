@@ -3,7 +3,6 @@ use mathlib.Core.Path.{_≡_, refl, sym, ap, _∙_}
 use mathlib.Core.Bool.{Bool, true, false, cond}
 use mathlib.Core.List.{List, [], _∷_, _++_, append-nil}
 use Prim.Native.Nat.{ℕ, _+_, _-_, _≤_, _<_}
-use native.Mathlib.Nat.{add-zero}
 use native.Mathlib.Omega.{arith}
 use lib.Dec.{leb}
 use lib.ListN.{length, take, drop, set, length-take, length-drop, take-append-drop}
@@ -16,11 +15,6 @@ use Rattle.record_bytes.specs.Layout.{big, trailerBytes, endBytes}
 use Rattle.record_bytes.specs.Steps.{put}
 use Rattle.record_bytes.proofs.Numbers.{length-big}
 use Rattle.record_bytes.proofs.Putting.{length-put, put-put, set-put}
-
--- no bytes put change nothing
-pub put-none : (d : List ℕ) (at : ℕ) → d ≡ put d at []
-unfolding put
-put-none d at = sym (ap (λ (k : ℕ). take at d ++ drop k d) (add-zero at) ∙ take-append-drop at d)
 
 -- bytes put at the start of an array, and as many taken from it
 pub put-taken : (d s : List ℕ) (n : ℕ) → n ≡ length s → take n (put d 0 s) ≡ s
@@ -121,7 +115,7 @@ module _ (d : List ℕ) (at : ℕ) (s : List ℕ) (h : at + length s ≤ length 
           let l : last < i = leb-false i last t in
           put-last two i last (omega arith) k (r ∙ ap (λ (b : Bool). put d at (take (middle b i) s)) t)
 
--- ---- an entry's trailer, and an entry
+-- ---- an entry's trailer
 
 -- request and count stored, then the bits put, then the length
 pub trailer-put : (f : Form) (d mid after : List ℕ) (at q c b n k : ℕ) → k ≡ trailerSize f → at + trailerSize f ≤ length d

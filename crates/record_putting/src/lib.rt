@@ -1,6 +1,6 @@
 // The parts of a session record put into a buffer, over the form: an entry's frame and trailer, and the record's end. It stands over
 // `record_bytes`, whose specs say which bytes these are (Layout) and what putting is (Steps).
-// Inner: `record` and `record_moving`. It asks for places inside the buffer, and `put_entry` for a frame of a frame's length.
+// Inner: `record` and `record_moving`. It asks for places inside the buffer, and `put_entry` for a frame of 16 to 65,535 bytes.
 ghost use mathlib.Core.Path.{_≡_};
 ghost use mathlib.Core.Bool.{cond};
 ghost use mathlib.Core.List.{_++_};

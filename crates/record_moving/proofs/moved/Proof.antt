@@ -8,7 +8,7 @@ use denote.Ref.{now}
 use Rattle.record_bytes.specs.Layout.{endBytes}
 use Rattle.record_bytes.specs.Steps.{Whole, put}
 use Rattle.record_answers.specs.Answers.{accepted}
-use Rattle.record_moving.specs.Moving.{entriesIn}
+use Rattle.record_moving.specs.Moving.{movedEntries}
 use Rattle.record_bytes.proofs.Numbers.{Bytes}
 use Rattle.record_bytes.proofs.Inverse.{length-end}
 use Rattle.record_bytes.proofs.Walking.{whole-read, none-read}
@@ -107,7 +107,7 @@ returns-4 c =
     let m = move-made (a .from) f (now (a .bytes)) (now (a .out)) (n .result) (whole (k .before)) at
     (omega (arith, e .before .before .if1 .left, z .long)) (omega (arith, e .before .if2 .left, z .long)) (omega (arith, z .long)) in (
       ap accepted (z .long) ∙ m .0,
-      c .before .before .put-entries .ensures ∙ ap (λ (l : List ℕ). put l 0 (entriesIn (a .from) f (now (a .bytes))))
+      c .before .before .put-entries .ensures ∙ ap (λ (l : List ℕ). put l 0 (movedEntries (a .from) f (now (a .bytes))))
           (p .put-end .ensures ∙ ap (λ (i : ℕ). put (now (a .out)) at (endBytes f i)) (sym (n .ensures))) ∙ m .1,
     )
 

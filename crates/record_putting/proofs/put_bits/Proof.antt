@@ -5,7 +5,7 @@ use Rattle.record_forms.specs.Forms.{bitsSize}
 use Rattle.record_forms.specs.declared.Form.{Form}
 use Rattle.record_bytes.specs.Layout.{big}
 use Rattle.record_bytes.specs.Steps.{put}
-use Rattle.record_putting.proofs.Parts.{put-none}
+use Rattle.record_bytes.proofs.Putting.{put-none}
 use borrow.Author.Needs.{needs}
 use Rattle.record_putting.proofs.put_bits.Statement.{statement}
 use Rattle.record_putting.proofs.put_bits.Tie as tie

@@ -6,8 +6,8 @@ use lib.ListN.{length, take}
 use lib.Seq.{length-take-le}
 use denote.Ref.{now}
 use Rattle.record_bytes.specs.Steps.{put}
-use Rattle.record_bytes.proofs.Putting.{length-put}
-use Rattle.record_putting.proofs.Parts.{put-none, part-length, put-next, middle-length, put-ended}
+use Rattle.record_bytes.proofs.Putting.{length-put, put-none}
+use Rattle.record_putting.proofs.Parts.{part-length, put-next, middle-length, put-ended}
 use borrow.Author.Needs.{needs}
 use Rattle.record_putting.proofs.put_frame.Statement.{statement}
 use Rattle.record_putting.proofs.put_frame.Tie as tie

@@ -1,0 +1,2 @@
+-- Where the day's texts stand.
+pub mod Page
