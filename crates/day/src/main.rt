@@ -29,6 +29,9 @@ fn main() {
         Surveyed::UnknownRate => {
             say(b"day: the sample has a rate that is none of 8, 16, 24, 32 and 48 kHz\n")
         }
+        Surveyed::UnknownDuration => {
+            say(b"day: the sample has a duration that is none of 2.5, 5, 7.5 and 10 ms\n")
+        }
         Surveyed::BadLength => {
             say(b"day: the sample has a frame that is not of 20 to 400 bytes\n")
         }

@@ -14,10 +14,11 @@ use record::Added;
 use slot::Protection;
 use slot::Reception;
 
-// A frame's place in the sample, its rate, and the slot that carries it.
+// A frame's place in the sample, its rate and duration, and the slot that carries it.
 struct Trip {
     place: usize,
     khz: u32,
+    duration: u32,
     size: usize,
     mode: u32,
 }
@@ -34,7 +35,14 @@ pub fn walk(bytes: &[u8], buffer: &mut [u8], used: usize) -> Tally {
         };
         let start = piece.start;
         let end = piece.end;
-        t = send(place, piece.khz, &bytes[start..end], buffer, t);
+        t = send(
+            place,
+            piece.khz,
+            piece.duration,
+            &bytes[start..end],
+            buffer,
+            t,
+        );
         if 0 < t.refused_6 {
             return t;
         }
@@ -45,7 +53,7 @@ pub fn walk(bytes: &[u8], buffer: &mut [u8], used: usize) -> Tally {
 }
 
 // One frame: the slot for it, and what comes of it.
-fn send(place: usize, khz: u32, frame: &[u8], buffer: &mut [u8], t: Tally) -> Tally
+fn send(place: usize, khz: u32, duration: u32, frame: &[u8], buffer: &mut [u8], t: Tally) -> Tally
     requires { ⌜ length (now frame) ≤ 400 ⌝ }
 {
     let n = frame.len();
@@ -58,6 +66,7 @@ fn send(place: usize, khz: u32, frame: &[u8], buffer: &mut [u8], t: Tally) -> Ta
     let trip = Trip {
         place,
         khz,
+        duration,
         size,
         mode,
     };
@@ -90,7 +99,16 @@ fn receive(
         count as usize == changes,
         bits as usize == changed_bits,
     );
-    keep(trip.khz, out, found, count, bits, buffer, compared)
+    keep(
+        trip.khz,
+        trip.duration,
+        out,
+        found,
+        count,
+        bits,
+        buffer,
+        compared,
+    )
 }
 
 // The slot of a frame is made, changed on the way and unprotected.
@@ -126,16 +144,17 @@ fn same(a: &[u8], b: &[u8]) -> bool {
     true
 }
 
-// The lines of a frame at a rate.
-fn lines_at(khz: u32) -> usize
+// The lines of a frame at a rate and a duration.
+fn lines_at(khz: u32, duration: u32) -> usize
     ensures { λ r. ⌜ r ≤ 400 ⌝ }
 {
-    frame::line_count(khz)
+    frame::line_count(khz, duration)
 }
 
 // Reads an accepted frame, and stores it where that succeeds.
 fn keep(
     khz: u32,
+    duration: u32,
     frame: &[u8],
     request: u8,
     count: u16,
@@ -145,10 +164,10 @@ fn keep(
 ) -> Tally
     requires { ⌜ length (now frame) ≤ 400 ⌝ }
 {
-    let n = lines_at(khz);
+    let n = lines_at(khz, duration);
     let mut spectrum = [0i32; 400];
     let mut residual = [0u8; 400];
-    let reading = frame::read(khz, frame, &mut spectrum[..n], &mut residual[..n]);
+    let reading = frame::read(khz, duration, frame, &mut spectrum[..n], &mut residual[..n]);
     let answer = reading.answer;
     match answer {
         Answer::Read(fields) => store(frame, request, count, bits, buffer, counted(fields, t)),

@@ -5,11 +5,11 @@ use Prim.Native.Nat.{ℕ}
 use lib.Dec.{leb, eqb}
 use lib.ListN.{length}
 use Rattle.frame_bits.specs.Read.{Read, andThen}
-use Rattle.frame_settings.specs.Settings.{rateOf}
+use Rattle.frame_settings.specs.Settings.{settingOf}
 use Rattle.frame_side.specs.Side.{sideOf}
 use Rattle.frame_settings.specs.declared.Setting.{Setting}
-use Rattle.frame_settings.specs.declared.Rate.{Rate}
-use Rattle.frame_settings.specs.declared.Rate.the-variants as rate
+use Rattle.frame_settings.specs.declared.Settled.{Settled}
+use Rattle.frame_settings.specs.declared.Settled.the-variants as settled
 use Rattle.frame_arithmetic.specs.Answers.{Whole, arithmeticFrom, Judged, judgedRead, refused}
 
 -- the frame's fields, spectrum and residual bits, or the first cause in reading order
@@ -25,10 +25,10 @@ abbrev pub judgedSized : Setting → List ℕ → ℕ → ℕ → Judged
 judgedSized r s x b = cond (eqb x (r .lines) && eqb b (r .lines)) (judgedRead (frameOf s r)) (refused 2 0)
 
 -- 1: a setting is out of range
-abbrev pub judgedAt : Rate → List ℕ → ℕ → ℕ → Judged
-judgedAt rate.Unknown s x b = refused 1 0
-judgedAt (rate.Known r) s x b = cond (sized (length s)) (judgedSized r s x b) (refused 1 0)
+abbrev pub judgedAt : Settled → List ℕ → ℕ → ℕ → Judged
+judgedAt settled.Unknown s x b = refused 1 0
+judgedAt (settled.Known r) s x b = cond (sized (length s)) (judgedSized r s x b) (refused 1 0)
 
--- of a rate, a frame, and the lengths of the two lent buffers
-unfoldable pub judgedOf : ℕ → List ℕ → ℕ → ℕ → Judged
-judgedOf khz s x b = judgedAt (rateOf khz) s x b
+-- of a rate, a duration, a frame, and the lengths of the two lent buffers
+unfoldable pub judgedOf : ℕ → ℕ → List ℕ → ℕ → ℕ → Judged
+judgedOf khz q s x b = judgedAt (settingOf khz q) s x b

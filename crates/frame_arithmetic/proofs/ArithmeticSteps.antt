@@ -10,7 +10,8 @@ use lib.IntN.{ℤ}
 use Rattle.coder_tables.specs.Tables.{orderTable, coefficientTable}
 use Rattle.coder_tables.proofs.Rules.{order-row, coefficient-row}
 use Rattle.frame_bits.specs.Read.{Read, value, cause}
-use Rattle.frame_settings.specs.Settings.{weighting}
+use Rattle.frame_settings.specs.Settings.{weighting, lastCause}
+use Rattle.frame_settings.proofs.TenMs.{least-causes}
 use Rattle.frame_coder.specs.Symbol.{startOf}
 use Rattle.frame_tns.specs.Tns.{Filter, filterOf, filterGiven, unused}
 use Rattle.frame_spectral.specs.Spectral.{Spectral, spectralFrom, spectralGiven}
@@ -40,39 +41,38 @@ tns-tables orders rows e f = rw (e, f) (record { order = order-row; coefficient 
 -- ---- the arithmetic stream
 
 -- the first filter's data, and the second's
-unfoldable pub firstAt : List ℕ → Side → Read Coder Filter
-firstAt s v = filterOf s orderTable coefficientTable (weighting (length s)) (v .flags .«tns_0») (startOf s)
+unfoldable pub firstAt : List ℕ → Setting → Side → Read Coder Filter
+firstAt s r v = filterOf s orderTable coefficientTable (weighting (r .weighting) (length s)) (r .order) (v .flags .«tns_0») (startOf s)
 
-unfoldable pub secondAt : List ℕ → Side → Coder → Read Coder Filter
-secondAt s v c = filterOf s orderTable coefficientTable (weighting (length s)) (v .flags .«tns_1») c
+unfoldable pub secondAt : List ℕ → Setting → Side → Coder → Read Coder Filter
+secondAt s r v c = filterOf s orderTable coefficientTable (weighting (r .weighting) (length s)) (r .order) (v .flags .«tns_1») c
 
-pub first-at : (s : List ℕ) (v : Side) (c : Coder) (orders rows : List ℕ) (w : ℕ) (x : Read Coder Filter) → orders ≡ orderTable
-    → rows ≡ coefficientTable → w ≡ weighting (length s) → c ≡ startOf s → x ≡ filterOf s orders rows w (v .flags .«tns_0») c
-    → firstAt s v ≡ x
-unfolding firstAt
-first-at s v c orders rows w x e f l o q = sym (rw (e, f, l, o) at q)
+module _ (s : List ℕ) (r : Setting) (v : Side) (c : Coder) (orders rows : List ℕ) (w : ℕ) (x : Read Coder Filter) (e : orders ≡ orderTable)
+    (f : rows ≡ coefficientTable) (l : w ≡ weighting (r .weighting) (length s)) where
+  pub first-at : c ≡ startOf s → x ≡ filterOf s orders rows w (r .order) (v .flags .«tns_0») c → firstAt s r v ≡ x
+  unfolding firstAt
+  first-at o q = sym (rw (e, f, l, o) at q)
 
-pub second-at : (s : List ℕ) (v : Side) (c : Coder) (orders rows : List ℕ) (w : ℕ) (x : Read Coder Filter) → orders ≡ orderTable
-    → rows ≡ coefficientTable → w ≡ weighting (length s) → x ≡ filterOf s orders rows w (v .flags .«tns_1») c → secondAt s v c ≡ x
-unfolding secondAt
-second-at s v c orders rows w x e f l q = sym (rw (e, f, l) at q)
+  pub second-at : x ≡ filterOf s orders rows w (r .order) (v .flags .«tns_1») c → secondAt s r v c ≡ x
+  unfolding secondAt
+  second-at q = sym (rw (e, f, l) at q)
 
-pub arithmetic-first : (s : List ℕ) (r : Setting) (v : Side) (p k : ℕ) → firstAt s v ≡ cause k → arithmeticFrom s r v p ≡ cause k
+pub arithmetic-first : (s : List ℕ) (r : Setting) (v : Side) (p k : ℕ) → firstAt s r v ≡ cause k → arithmeticFrom s r v p ≡ cause k
 unfolding arithmeticFrom firstAt
 arithmetic-first s r v p k e = rw e
 
-pub arithmetic-second : (s : List ℕ) (r : Setting) (v : Side) (p k : ℕ) (f : Filter) (c : Coder) → firstAt s v ≡ value f c
-    → secondAt s v c ≡ cause k → arithmeticFrom s r v p ≡ cause k
+pub arithmetic-second : (s : List ℕ) (r : Setting) (v : Side) (p k : ℕ) (f : Filter) (c : Coder) → firstAt s r v ≡ value f c
+    → secondAt s r v c ≡ cause k → arithmeticFrom s r v p ≡ cause k
 unfolding arithmeticFrom firstAt secondAt
 arithmetic-second s r v p k f c e g = rw (e, g)
 
-pub arithmetic-third : (s : List ℕ) (r : Setting) (v : Side) (p k : ℕ) (f g : Filter) (c d : Coder) → firstAt s v ≡ value f c
-    → secondAt s v c ≡ value g d → spectralFrom s r (v .head) d p ≡ cause k → arithmeticFrom s r v p ≡ cause k
+pub arithmetic-third : (s : List ℕ) (r : Setting) (v : Side) (p k : ℕ) (f g : Filter) (c d : Coder) → firstAt s r v ≡ value f c
+    → secondAt s r v c ≡ value g d → spectralFrom s r (v .head) d p ≡ cause k → arithmeticFrom s r v p ≡ cause k
 unfolding arithmeticFrom firstAt secondAt
 arithmetic-third s r v p k f g c d e i j = rw (e, i, j)
 
-pub arithmetic-value : (s : List ℕ) (r : Setting) (v : Side) (p q : ℕ) (f g : Filter) (c d : Coder) (y : Spectral) → firstAt s v ≡ value f c
-    → secondAt s v c ≡ value g d → spectralFrom s r (v .head) d p ≡ value y q
+pub arithmetic-value : (s : List ℕ) (r : Setting) (v : Side) (p q : ℕ) (f g : Filter) (c d : Coder) (y : Spectral) → firstAt s r v ≡ value f c
+    → secondAt s r v c ≡ value g d → spectralFrom s r (v .head) d p ≡ value y q
     → arithmeticFrom s r v p ≡ value (record { side = v; first = f; second = g; spectral = y }) q
 unfolding arithmeticFrom firstAt secondAt
 arithmetic-value s r v p q f g c d y e i j = rw (e, i, j)
@@ -81,62 +81,70 @@ arithmetic-value s r v p q f g c d y e i j = rw (e, i, j)
 pub start-taken : (s : List ℕ) (c : Coder) → c ≡ startOf s → c .taken ≡ 0
 start-taken s c e = ap (λ (x : Coder). x .taken) e
 
--- the three refusals: g is what was answered, k its cause
-filter-cause : (s : List ℕ) (c : Coder) (g : FilterRead) (k : ℕ) → g ≡ filter.Cause k → GoodFilter s c g → (1 ≤ k) × (k ≤ 7)
-filter-cause s c g k i a =
-    let b : GoodFilter s c (filter.Cause k) = rw i at a in
-    (omega (arith, b .0), omega (arith, b .1))
+-- a cause that can arise at the setting
+abbrev pub Possible : Setting → ℕ → Type 0
+Possible r k = (1 ≤ k) × (k ≤ lastCause (r .order))
 
+filter-cause : (s : List ℕ) (r : Setting) (c : Coder) (g : FilterRead) (k : ℕ) → g ≡ filter.Cause k → GoodFilter s (r .order) c g
+    → Possible r k
+filter-cause s r c g k i a =
+    let b : GoodFilter s (r .order) c (filter.Cause k) = rw i at a in
+    (omega (arith, b .0), b .1)
+
+-- the three refusals: g is what was answered, k its cause
 pub first-refused :
-    (s : List ℕ) (r : Setting) (v : Side) (p : ℕ) (c : Coder) (g : FilterRead) (l : List ℕ) (k : ℕ) → firstAt s v ≡ filterGiven g l
-    → g ≡ filter.Cause k → GoodFilter s c g → (arithmeticFrom s r v p ≡ cause k) × ((1 ≤ k) × (k ≤ 7))
-first-refused s r v p c g l k f i a = (arithmetic-first s r v p k (rw i at f), filter-cause s c g k i a)
+    (s : List ℕ) (r : Setting) (v : Side) (p : ℕ) (c : Coder) (g : FilterRead) (l : List ℕ) (k : ℕ) → firstAt s r v ≡ filterGiven g l
+    → g ≡ filter.Cause k → GoodFilter s (r .order) c g → (arithmeticFrom s r v p ≡ cause k) × Possible r k
+first-refused s r v p c g l k f i a = (arithmetic-first s r v p k (rw i at f), filter-cause s r c g k i a)
 
 pub second-refused :
     (s : List ℕ) (r : Setting) (v : Side) (p : ℕ) (o : Filter) (c : Coder) (g : FilterRead) (l : List ℕ) (k : ℕ)
-    → firstAt s v ≡ value o c → secondAt s v c ≡ filterGiven g l → g ≡ filter.Cause k → GoodFilter s c g
-    → (arithmeticFrom s r v p ≡ cause k) × ((1 ≤ k) × (k ≤ 7))
-second-refused s r v p o c g l k h f i a = (arithmetic-second s r v p k o c h (rw i at f), filter-cause s c g k i a)
+    → firstAt s r v ≡ value o c → secondAt s r v c ≡ filterGiven g l → g ≡ filter.Cause k → GoodFilter s (r .order) c g
+    → (arithmeticFrom s r v p ≡ cause k) × Possible r k
+second-refused s r v p o c g l k h f i a = (arithmetic-second s r v p k o c h (rw i at f), filter-cause s r c g k i a)
 
 pub third-refused :
     (s : List ℕ) (r : Setting) (v : Side) (p : ℕ) (o u : Filter) (c d : Coder) (g : SpectralRead) (lines : List ℤ) (bits : List ℕ)
-    (k last : ℕ) → firstAt s v ≡ value o c → secondAt s v c ≡ value u d → spectralGiven g lines bits ≡ spectralFrom s r (v .head) d p
-    → g ≡ spectralRead.Cause k → GoodSpectral last g lines → (arithmeticFrom s r v p ≡ cause k) × ((1 ≤ k) × (k ≤ 7))
+    (k last : ℕ) → firstAt s r v ≡ value o c → secondAt s r v c ≡ value u d → spectralGiven g lines bits ≡ spectralFrom s r (v .head) d p
+    → g ≡ spectralRead.Cause k → GoodSpectral last g lines → (arithmeticFrom s r v p ≡ cause k) × Possible r k
 third-refused s r v p o u c d g lines bits k last h w f i a =
-    (arithmetic-third s r v p k o u c d h w (sym (rw i at f)), rw i at a)
+    let b : GoodSpectral last (spectralRead.Cause k) lines = rw i at a in
+    (arithmetic-third s r v p k o u c d h w (sym (rw i at f)), (b .0, omega (arith, b .1, least-causes (r .order))))
 
 -- ---- the answer and both buffers, as a judgement j asks
 
-abbrev pub Answered : Reading → Judged → List ℤ → List ℤ → List ℕ → List ℕ → Type 0
-Answered o j spectrum spectrum′ residual residual′ =
-    Answers (told o) j spectrum spectrum′ residual residual′ × Bounded (told o) spectrum′
+abbrev pub Answered : ℕ → Reading → Judged → List ℤ → List ℤ → List ℕ → List ℕ → Type 0
+Answered most o j spectrum spectrum′ residual residual′ =
+    Answers (told o) j spectrum spectrum′ residual residual′ × Bounded most (told o) spectrum′
 
 -- a refusal is bounded by its cause alone
-refused-bounds : (g : Given) (lines : List ℤ) → 1 ≤ g .number → (g .number ≡ 5 → 1 ≤ g .cause) → g .cause ≤ 7 → Bounded g lines
-refused-bounds g lines h a b =
+refused-bounds : (most : ℕ) (g : Given) (lines : List ℤ) → 1 ≤ g .number → (g .number ≡ 5 → 1 ≤ g .cause) → g .cause ≤ most
+    → Bounded most g lines
+refused-bounds most g lines h a b =
     record { symbols = λ z. absurd (omega arith); values = λ z. absurd (omega arith); cause-from = a; cause-to = b }
 
--- the same by an equal judgement
-pub answers-by : (o : Reading) (i j : Judged) (spectrum spectrum′ : List ℤ) (residual residual′ : List ℕ) → i ≡ j
-    → Answered o j spectrum spectrum′ residual residual′ → Answered o i spectrum spectrum′ residual residual′
-answers-by o i j spectrum spectrum′ residual residual′ e a = rw e a
+-- the same by an equal judgement and an equal bound
+pub answers-by : (m n : ℕ) (o : Reading) (i j : Judged) (spectrum spectrum′ : List ℤ) (residual residual′ : List ℕ) → m ≡ n → i ≡ j
+    → Answered n o j spectrum spectrum′ residual residual′ → Answered m o i spectrum spectrum′ residual residual′
+answers-by m n o i j spectrum spectrum′ residual residual′ f e a = rw (f, e) a
 
 -- a refusal g with number n and cause k: zero in every other field, and both buffers as lent
-pub answers-refused : (g : Given) (j : Judged) (n k : ℕ) (spectrum : List ℤ) (residual : List ℕ) → g ≡ refusedWith n k → j ≡ refused n k
-    → 1 ≤ n → (n ≡ 5 → 1 ≤ k) → k ≤ 7 → Answers g j spectrum spectrum residual residual × Bounded g spectrum
+pub answers-refused : (most : ℕ) (g : Given) (j : Judged) (n k : ℕ) (spectrum : List ℤ) (residual : List ℕ) → g ≡ refusedWith n k
+    → j ≡ refused n k → 1 ≤ n → (n ≡ 5 → 1 ≤ k) → k ≤ most
+    → Answers g j spectrum spectrum residual residual × Bounded most g spectrum
 unfolding givenOf
-answers-refused g j n k spectrum residual e f h a b = rw (e, f)
-    (record { given = refl; lines = refl; bits = refl }, refused-bounds (refusedWith n k) spectrum h a b)
+answers-refused most g j n k spectrum residual e f h a b = rw (e, f)
+    (record { given = refl; lines = refl; bits = refl }, refused-bounds most (refusedWith n k) spectrum h a b)
 
 -- answer a is what a refusal with number n and without a cause asks for
 abbrev pub Refuses : Answer → ℕ → Type 0
-Refuses a n = (o : Reading) (j : Judged) (spectrum : List ℤ) (residual : List ℕ)
+Refuses a n = (most : ℕ) (o : Reading) (j : Judged) (spectrum : List ℤ) (residual : List ℕ)
     → o ≡ record { answer = a; «tns_coefficients_0» = unused; «tns_coefficients_1» = unused } → j ≡ refused n 0
-    → Answered o j spectrum spectrum residual residual
+    → Answered most o j spectrum spectrum residual residual
 
 refuses : (a : Answer) (n : ℕ) → answered a unused unused ≡ refusedWith n 0 → 1 ≤ n → n < 5 → Refuses a n
-refuses a n i h k o j spectrum residual e f =
-    answers-refused (told o) j n 0 spectrum residual (ap told e ∙ i) f h (λ z. absurd (omega (arith, z, k))) (omega arith)
+refuses a n i h k most o j spectrum residual e f =
+    answers-refused most (told o) j n 0 spectrum residual (ap told e ∙ i) f h (λ z. absurd (omega (arith, z, k))) (omega arith)
 
 pub answers-setting : Refuses answer.Setting 1
 answers-setting = refuses answer.Setting 1 refl (omega arith) (omega arith)
@@ -144,17 +152,18 @@ answers-setting = refuses answer.Setting 1 refl (omega arith) (omega arith)
 pub answers-length : Refuses answer.Length 2
 answers-length = refuses answer.Length 2 refl (omega arith) (omega arith)
 
-pub answers-cause : (o : Reading) (x : Read ℕ Whole) (k : ℕ) (spectrum spectrum′ : List ℤ) (residual residual′ : List ℕ)
+pub answers-cause : (r : Setting) (o : Reading) (x : Read ℕ Whole) (k : ℕ) (spectrum spectrum′ : List ℤ) (residual residual′ : List ℕ)
     → o ≡ record { answer = answer.BitError k; «tns_coefficients_0» = unused; «tns_coefficients_1» = unused } → x ≡ cause k
-    → spectrum′ ≡ spectrum → residual′ ≡ residual → (1 ≤ k) × (k ≤ 7)
-    → Answered o (judgedRead x) spectrum spectrum′ residual residual′
-answers-cause o x k spectrum spectrum′ residual residual′ e f a b h = rw (a, b)
-    (answers-refused (told o) (judgedRead x) 5 k spectrum residual (ap told e) (ap judgedRead f) (omega arith) (λ z. h .0) (h .1))
+    → spectrum′ ≡ spectrum → residual′ ≡ residual → Possible r k
+    → Answered (lastCause (r .order)) o (judgedRead x) spectrum spectrum′ residual residual′
+answers-cause r o x k spectrum spectrum′ residual residual′ e f a b h = rw (a, b)
+    (answers-refused (lastCause (r .order)) (told o) (judgedRead x) 5 k spectrum residual (ap told e) (ap judgedRead f) (omega arith)
+    (λ z. h .0) (h .1))
 
-pub answers-value : (x : Read ℕ Whole) (v : Side) (f g : Filter) (y : Spectral) (q : ℕ) (spectrum : List ℤ) (residual : List ℕ)
+pub answers-value : (most : ℕ) (x : Read ℕ Whole) (v : Side) (f g : Filter) (y : Spectral) (q : ℕ) (spectrum : List ℤ) (residual : List ℕ)
     → x ≡ value (record { side = v; first = f; second = g; spectral = y }) q
     → (y .symbols ≤ 18 + 7 * v .head .«last_line») × Small (y .lines)
-    → Answered
+    → Answered most
     (record {
       answer = answer.Read (record {
         side = v;
@@ -168,7 +177,7 @@ pub answers-value : (x : Read ℕ Whole) (v : Side) (f g : Filter) (y : Spectral
     })
     (judgedRead x) spectrum (y .lines) residual (y .residual .bits)
 unfolding givenOf
-answers-value x v f g y q spectrum residual e h = rw e (
+answers-value most x v f g y q spectrum residual e h = rw e (
   record { given = refl; lines = refl; bits = refl },
   record { symbols = λ z. h .0; values = λ z. h .1; cause-from = λ z. absurd (omega arith); cause-to = omega arith },
 )

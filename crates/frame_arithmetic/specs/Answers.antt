@@ -26,8 +26,8 @@ pub record Whole : Type 0 where
 -- the arithmetic stream: the two filters' TNS data, then the pairs
 unfoldable pub arithmeticFrom : List ℕ → Setting → Side → ℕ → Read ℕ Whole
 arithmeticFrom s r v p =
-    andThen (filterOf s orderTable coefficientTable (weighting (length s)) (v .flags .«tns_0») (startOf s)) (λ f c.
-    andThen (filterOf s orderTable coefficientTable (weighting (length s)) (v .flags .«tns_1») c) (λ g c.
+    andThen (filterOf s orderTable coefficientTable (weighting (r .weighting) (length s)) (r .order) (v .flags .«tns_0») (startOf s)) (λ f c.
+    andThen (filterOf s orderTable coefficientTable (weighting (r .weighting) (length s)) (r .order) (v .flags .«tns_1») c) (λ g c.
     andThen (spectralFrom s r (v .head) c p) (λ x p. value (record { side = v; first = f; second = g; spectral = x }) p)))
 
 -- accepted; or refused, with document 01's number and the cause

@@ -1,2 +1,3 @@
--- The five rates.
-pub mod Rates
+-- The twenty settings, and what stays at 10 ms.
+pub mod Settings
+pub mod TenMs

@@ -1,68 +1,124 @@
--- The settings of a 10 ms frame (document 01, "Reading a frame"): what the rate gives, and how long a frame may be. Assumes nothing.
+-- The settings of a frame (document 01, "Reading a frame"; request 02 §3): what the rate and the duration give, and how long a frame may
+-- be. The duration is counted in quarter milliseconds. Assumes nothing.
 use mathlib.Core.Path.{_≡_}
-use mathlib.Core.Bool.{cond}
+use mathlib.Core.Bool.{Bool, true, false, cond}
 use mathlib.Core.List.{List, [], _∷_}
-use Prim.Native.Nat.{ℕ, _+_, _*_, _/_, _≤_}
-use lib.Dec.{ltb, eqb}
+use Prim.Native.Nat.{ℕ, zero, suc, _+_, _-_, _*_, _/_, _^_, _≤_}
+use lib.Dec.{ltb, leb, eqb}
 use lib.ListN.{length}
 use Rattle.frame_settings.specs.declared.Setting.{Setting}
-use Rattle.frame_settings.specs.declared.Rate.{Rate}
-use Rattle.frame_settings.specs.declared.Rate.the-variants as rate
+use Rattle.frame_settings.specs.declared.Settled.{Settled}
+use Rattle.frame_settings.specs.declared.Settled.the-variants as settled
 
-abbrev pub setting : ℕ → ℕ → ℕ → ℕ → Rate
-setting index lines bandwidth pair =
-    rate.Known (record { index = index; lines = lines; bandwidth = bandwidth; pair = pair })
-
--- a row of the table of document 01: a rate, and its setting
-pub record RateRow : Type 0 where
+-- a rate: kHz, "index" (formula 1), and the bits of the bandwidth (Table 5.21)
+pub record Rate : Type 0 where
   pub khz : ℕ
-  pub given : Setting
+  pub index : ℕ
+  pub bandwidth : ℕ
 
--- kHz, the rate's index, the line count NE, the bits of the bandwidth and of the last pair
-abbrev pub row : ℕ → ℕ → ℕ → ℕ → ℕ → RateRow
-row khz index lines bandwidth pair =
-    record { khz = khz; given = record { index = index; lines = lines; bandwidth = bandwidth; pair = pair } }
+abbrev pub rate : ℕ → ℕ → ℕ → Rate
+rate khz index bandwidth = record { khz = khz; index = index; bandwidth = bandwidth }
 
-abbrev pub rates : List RateRow
-rates = row 8 0 80 0 6 ∷ row 16 1 160 1 7 ∷ row 24 2 240 2 7 ∷ row 32 3 320 2 8 ∷ row 48 4 400 3 8 ∷ []
+-- "rate 8, 16, 24, 32 or 48 kHz"
+abbrev pub rates : List Rate
+rates = rate 8 0 0 ∷ rate 16 1 1 ∷ rate 24 2 2 ∷ rate 32 3 2 ∷ rate 48 4 3 ∷ []
+
+-- 5.2.4: 2.5, 5, 7.5 and 10 ms
+abbrev pub durations : List ℕ
+durations = 10 ∷ 20 ∷ 30 ∷ 40 ∷ []
+
+-- formula 7: NE, rate times duration, at most 40 lines a millisecond
+abbrev pub linesOf : ℕ → ℕ → ℕ
+linesOf khz q = cond (ltb khz 40) khz 40 * q / 4
+
+-- ceil (log2 n) up to the width w: the least width that numbers n things
+abbrev pub widthOf : ℕ → ℕ → ℕ
+widthOf n zero = 0
+widthOf n (suc w) = cond (leb n (2 ^ w)) (widthOf n w) (suc w)
+
+-- 5.4.2.3.1, lastnz_bits, of NE / 2 up to 256: one more where fewer than two values would be left
+abbrev pub pairBits : ℕ → ℕ
+pairBits half = cond (ltb (2 ^ widthOf half 8 - half) 2) (suc (widthOf half 8)) (widthOf half 8)
+
+-- Tables 5.15 and 5.24: the TNS filters at bandwidth 3 and 4
+abbrev pub filtersOf : ℕ → ℕ
+filtersOf q = cond (eqb q 10) 1 2
+
+-- 5.4.2.7, maxTnsOrder: half of 8 up to 5 ms
+abbrev pub orderOf : ℕ → ℕ
+orderOf q = cond (leb q 20) 4 8
+
+-- what a rate and a duration give
+abbrev pub setting : Rate → ℕ → Setting
+setting r q = record {
+  index = r .index;
+  lines = linesOf (r .khz) q;
+  half = linesOf (r .khz) q / 2;
+  bandwidth = r .bandwidth;
+  pair = pairBits (linesOf (r .khz) q / 2);
+  filters = filtersOf q;
+  order = orderOf q;
+  -- formula 69: 480 bits at 10 ms
+  weighting = 12 * q;
+  -- 5.3.11.5: at every duration
+  offset = 160 + 160 * r .index;
+}
+
+abbrev pub knownSetting : Rate → ℕ → Settled
+knownSetting r q = settled.Known (setting r q)
 
 -- the setting of a rate in such a table
-abbrev pub settingIn : List RateRow → ℕ → Rate
-settingIn [] khz = rate.Unknown
-settingIn (x ∷ xs) khz = cond (eqb khz (x .khz)) (rate.Known (x .given)) (settingIn xs khz)
+abbrev pub settingIn : List Rate → ℕ → ℕ → Settled
+settingIn [] khz q = settled.Unknown
+settingIn (x ∷ xs) khz q = cond (eqb khz (x .khz)) (knownSetting x q) (settingIn xs khz q)
 
-unfoldable pub rateOf : ℕ → Rate
-rateOf khz = settingIn rates khz
+-- q is one of the list
+abbrev pub listed : List ℕ → ℕ → Bool
+listed [] q = false
+listed (x ∷ xs) q = cond (eqb q x) true (listed xs q)
 
--- NE; 0 where the rate is out of range
-abbrev pub linesAt : Rate → ℕ
-linesAt (rate.Known r) = r .lines
-linesAt rate.Unknown = 0
+-- of a rate and a duration; none where one of them is out of range
+unfoldable pub settingOf : ℕ → ℕ → Settled
+settingOf khz q = cond (listed durations q) (settingIn rates khz q) settled.Unknown
 
-unfoldable pub lineCount : ℕ → ℕ
-lineCount khz = linesAt (rateOf khz)
+-- NE; 0 where there is no setting
+abbrev pub linesAt : Settled → ℕ
+linesAt (settled.Known r) = r .lines
+linesAt settled.Unknown = 0
+
+unfoldable pub lineCount : ℕ → ℕ → ℕ
+lineCount khz q = linesAt (settingOf khz q)
 
 -- "frame for the frame reader 20 to 400 bytes"
 pub record Sized (s : List ℕ) : Type 0 where
   pub least : 20 ≤ length s
   pub most : length s ≤ 400
 
--- 5.3.11.5, rateFlag: the offset of the context at high bit rates, "512 when the frame's bits exceed 160 + 160 x index"
+-- 5.3.11.5, rateFlag: the offset of the context at high bit rates, where the frame has more bits than the setting's limit
 abbrev pub rateOffset : ℕ → ℕ → ℕ
-rateOffset index bytes = cond (ltb (160 + 160 * index) (8 * bytes)) 512 0
+rateOffset limit bytes = cond (ltb limit (8 * bytes)) 512 0
 
--- 5.3.9.2, tns_lpc_weighting, 1 below 480 bits
-abbrev pub weighting : ℕ → ℕ
-weighting bytes = cond (ltb (8 * bytes) 480) 1 0
+-- formula 69, tns_lpc_weighting: 1 where the frame has fewer bits than the setting's limit
+abbrev pub weighting : ℕ → ℕ → ℕ
+weighting limit bytes = cond (ltb (8 * bytes) limit) 1 0
 
--- what the rate's numbers have in common
+-- the highest cause that can arise: 8 is an order above the highest, and no symbol says an order above 8
+abbrev pub lastCause : ℕ → ℕ
+lastCause order = cond (ltb order 8) 8 7
+
+unfoldable pub lastCauseOf : Settled → ℕ
+lastCauseOf (settled.Known r) = lastCause (r .order)
+lastCauseOf settled.Unknown = 7
+
+-- what the reader uses of a setting
 pub record Known (r : Setting) : Type 0 where
-  pub index : r .index ≤ 4
   pub lines : r .lines ≤ 400
-  pub even : r .lines ≡ 2 * (r .lines / 2)
+  pub even : r .lines ≡ 2 * r .half
   pub bandwidth : r .bandwidth ≤ 3
   pub pair : r .pair ≤ 8
+  pub filter : 1 ≤ r .filters
+  pub filters : r .filters ≤ 2
 
-abbrev pub KnownRate : Rate → Type 0
-KnownRate (rate.Known r) = Known r
-KnownRate rate.Unknown = Unit {0}
+abbrev pub KnownSetting : Settled → Type 0
+KnownSetting (settled.Known r) = Known r
+KnownSetting settled.Unknown = Unit {0}

@@ -2,7 +2,7 @@
 -- sent is one of no bits. Assumes nothing.
 use mathlib.Core.Bool.{cond}
 use mathlib.Core.List.{List}
-use Prim.Native.Nat.{ℕ, _+_, _*_}
+use Prim.Native.Nat.{ℕ, _+_, _-_, _*_}
 use lib.Dec.{ltb}
 use Rattle.frame_bits.specs.Read.{Read, value, cause, andThen}
 use Rattle.frame_bits.specs.Bits.{readBits}
@@ -25,14 +25,14 @@ headOf s r =
     (andThen (readBits s p 1) (λ m p. andThen (readBits s p 8) (λ g p.
     value (record { bandwidth = b; «last_line» = 2 * (f + 1); «lsb_mode» = m; gain = g }) p))))))
 
--- "one filter for bandwidth 0 to 2, else two": the bits of the second filter's flag
-abbrev pub secondFlag : ℕ → ℕ
-secondFlag bandwidth = cond (ltb bandwidth 3) 0 1
+-- "one filter for bandwidth 0 to 2", else the setting's number: the bits of the second filter's flag
+abbrev pub secondFlag : ℕ → ℕ → ℕ
+secondFlag filters bandwidth = cond (ltb bandwidth 3) 0 (filters - 1)
 
 -- one TNS flag per filter, and pitch present
-unfoldable pub flagsOf : List ℕ → ℕ → ℕ → Read ℕ Flags
-flagsOf s bandwidth p =
-    andThen (readBits s p 1) (λ a p. andThen (readBits s p (secondFlag bandwidth)) (λ b p. andThen (readBits s p 1) (λ t p.
+unfoldable pub flagsOf : List ℕ → ℕ → ℕ → ℕ → Read ℕ Flags
+flagsOf s filters bandwidth p =
+    andThen (readBits s p 1) (λ a p. andThen (readBits s p (secondFlag filters bandwidth)) (λ b p. andThen (readBits s p 1) (λ t p.
     value (record { «tns_0» = a; «tns_1» = b; «pitch_present» = t }) p)))
 
 -- with pitch the filter flag and the pitch index; then the noise level
@@ -43,7 +43,7 @@ tailOf s pitch p =
 
 unfoldable pub sideOf : List ℕ → Setting → Read ℕ Side
 sideOf s r =
-    andThen (headOf s r) (λ h p. andThen (flagsOf s (h .bandwidth) p) (λ f p. andThen (shapeOf s p) (λ q p.
+    andThen (headOf s r) (λ h p. andThen (flagsOf s (r .filters) (h .bandwidth) p) (λ f p. andThen (shapeOf s p) (λ q p.
     andThen (tailOf s (f .«pitch_present») p) (λ t p. value (record { head = h; flags = f; shape = q; tail = t }) p))))
 
 abbrev pub headGiven : HeadRead → Read ℕ Head

@@ -26,10 +26,10 @@ abbrev pub GoodHead : Setting → HeadRead → Type 0
 GoodHead r (head.Value h p) = HeadFor r h × (p ≤ 20)
 GoodHead r (head.Cause k) = (1 ≤ k) × (k ≤ 2)
 
-pub record GoodFlags (s : List ℕ) (bandwidth p : ℕ) (r : FlagsRead) : Type 0 where
-  pub found : flagsOf s bandwidth p ≡ value (r .flags) (r .next)
-  pub pitch : r .flags .«pitch_present» < 2
-  pub next : r .next ≤ p + 3
+pub record GoodFlags (s : List ℕ) (filters bandwidth p : ℕ) (f : FlagsRead) : Type 0 where
+  pub found : flagsOf s filters bandwidth p ≡ value (f .flags) (f .next)
+  pub pitch : f .flags .«pitch_present» < 2
+  pub next : f .next ≤ p + 3
 
 pub record GoodTail (s : List ℕ) (pitch p : ℕ) (r : TailRead) : Type 0 where
   pub found : tailOf s pitch p ≡ value (r .tail) (r .next)

@@ -94,20 +94,24 @@ fn read_head(s: &[u8], r: Setting) -> HeadRead
 }
 
 // The bits of the second filter's flag.
-fn second_flag(bandwidth: usize) -> usize
-    ensures { λ r. ⌜ r ≡ secondFlag bandwidth ⌝ }
+fn second_flag(filters: usize, bandwidth: usize) -> usize
+    requires { ⌜ 1 ≤ filters ⌝ }
+    requires { ⌜ filters ≤ 2 ⌝ }
+    ensures { λ r. ⌜ r ≡ secondFlag filters bandwidth ⌝ }
     ensures { λ r. ⌜ r ≤ 1 ⌝ }
 {
-    if bandwidth < 3 { 0 } else { 1 }
+    if bandwidth < 3 { 0 } else { filters - 1 }
 }
 
-fn read_flags(s: &[u8], bandwidth: usize, p: usize) -> FlagsRead
+fn read_flags(s: &[u8], filters: usize, bandwidth: usize, p: usize) -> FlagsRead
+    requires { ⌜ 1 ≤ filters ⌝ }
+    requires { ⌜ filters ≤ 2 ⌝ }
     requires { ⌜ p ≤ 20 ⌝ }
     requires { ⌜ Sized (now s) ⌝ }
-    ensures { λ r. ⌜ GoodFlags (now (s .entry)) bandwidth p r ⌝ }
+    ensures { λ r. ⌜ GoodFlags (now (s .entry)) filters bandwidth p r ⌝ }
 {
     let tns_0 = read_bits(s, p, 1);
-    let tns_1 = read_bits(s, tns_0.next, second_flag(bandwidth));
+    let tns_1 = read_bits(s, tns_0.next, second_flag(filters, bandwidth));
     let pitch_present = read_bits(s, tns_1.next, 1);
     FlagsRead {
         flags: Flags {
@@ -148,7 +152,7 @@ pub fn read_side(s: &[u8], r: Setting) -> SideRead
     match read_head(s, r) {
         HeadRead::Cause(k) => SideRead::Cause(k),
         HeadRead::Value(head, p) => {
-            let f = read_flags(s, wide(head.bandwidth), p);
+            let f = read_flags(s, r.filters, wide(head.bandwidth), p);
             let flags = f.flags;
             match read_shape(s, f.next) {
                 ShapeRead::Cause(k) => SideRead::Cause(k),

@@ -25,7 +25,7 @@ pub record Spectral : Type 0 where
 
 -- what the pairs are read with
 abbrev pub pairSetting : Setting → ℕ → ℕ → PairSetting
-pairSetting r bytes lsb = record { lsb = lsb; offset = rateOffset (r .index) bytes; half = r .lines / 2 }
+pairSetting r bytes lsb = record { lsb = lsb; offset = rateOffset (r .offset) bytes; half = r .half }
 
 abbrev pub spectralOf : List ℕ → Setting → Head → Spectrum → ℕ → ℕ → ℕ → Spectral
 spectralOf s r h x symbols p left =

@@ -4,7 +4,7 @@ use mathlib.Core.List.{List}
 use Prim.Native.Nat.{ℕ, suc, _+_, _-_, _*_, _≤_, _<_}
 use native.Mathlib.Omega.{arith}
 use lib.ListN.{set}
-use borrow.Author.Tests.{eq-eqb, ne-eqb}
+use borrow.Author.Tests.{eq-eqb, ne-eqb, lt-ltb, le-ltb}
 use Rattle.frame_bits.specs.Read.{value, cause}
 use Rattle.frame_coder.specs.Symbol.{symbolOf}
 use Rattle.frame_tns.specs.Tns.{unused, coefficientsOf, sentOf, filterOf}
@@ -33,26 +33,35 @@ coefficients-more s rows n k l c d v h e =
     let q : k + 1 ≡ suc k = omega arith in
     rw (p, e, q)
 
--- ---- a filter: not sent, no order, no coefficients, whole
+-- ---- a filter: not sent, no order, an order above the highest, no coefficients, whole
 
-pub filter-unused : (s orders rows : List ℕ) (w flag : ℕ) (c : Coder) → flag ≡ 0
-    → filterOf s orders rows w flag c ≡ value (record { order = 0; coefficients = unused }) c
-unfolding filterOf
-filter-unused s orders rows w flag c h = rw (eq-eqb flag 0 h)
+module _ (s orders rows : List ℕ) (w highest flag : ℕ) (c : Coder) where
+  pub filter-unused : flag ≡ 0 → filterOf s orders rows w highest flag c ≡ value (record { order = 0; coefficients = unused }) c
+  unfolding filterOf
+  filter-unused h = rw (eq-eqb flag 0 h)
 
-pub no-order : (s orders rows : List ℕ) (w flag : ℕ) (c : Coder) (x : ℕ) → (flag ≡ 0 → ⊥) → symbolOf s orders (w * 9) 7 c ≡ cause x
-    → filterOf s orders rows w flag c ≡ cause x
-unfolding filterOf sentOf
-no-order s orders rows w flag c x h e = rw (ne-eqb flag 0 h, e)
+  pub no-order : (x : ℕ) → (flag ≡ 0 → ⊥) → symbolOf s orders (w * 9) 7 c ≡ cause x → filterOf s orders rows w highest flag c ≡ cause x
+  unfolding filterOf sentOf
+  no-order x h e = rw (ne-eqb flag 0 h, e)
 
-pub no-coefficients : (s orders rows : List ℕ) (w flag : ℕ) (c d : Coder) (v x : ℕ) → (flag ≡ 0 → ⊥)
-    → symbolOf s orders (w * 9) 7 c ≡ value v d
-    → coefficientsOf s rows (v + 1) 0 unused d ≡ cause x → filterOf s orders rows w flag c ≡ cause x
-unfolding filterOf sentOf
-no-coefficients s orders rows w flag c d v x h e f = let q : v + 1 ≡ suc v = omega arith in rw (ne-eqb flag 0 h, e, ← q, f)
+  -- the order's symbol v was taken
+  module _ (h : flag ≡ 0 → ⊥) (d : Coder) (v : ℕ) (e : symbolOf s orders (w * 9) 7 c ≡ value v d) where
+    pub order-above : highest < v + 1 → filterOf s orders rows w highest flag c ≡ cause 8
+    unfolding filterOf sentOf
+    order-above l = let m : highest < suc v = omega arith in rw (ne-eqb flag 0 h, e, lt-ltb highest (suc v) m)
 
-pub filter-whole : (s orders rows : List ℕ) (w flag : ℕ) (c d : Coder) (v : ℕ) (l : List ℕ) (z : Coder) → (flag ≡ 0 → ⊥)
-    → symbolOf s orders (w * 9) 7 c ≡ value v d → coefficientsOf s rows (v + 1) 0 unused d ≡ value l z
-    → filterOf s orders rows w flag c ≡ value (record { order = v + 1; coefficients = l }) z
-unfolding filterOf sentOf
-filter-whole s orders rows w flag c d v l z h e f = let q : v + 1 ≡ suc v = omega arith in rw (ne-eqb flag 0 h, e, ← q, f)
+    module _ (l : v + 1 ≤ highest) where
+      pub no-coefficients : (x : ℕ) → coefficientsOf s rows (v + 1) 0 unused d ≡ cause x → filterOf s orders rows w highest flag c ≡ cause x
+      unfolding filterOf sentOf
+      no-coefficients x f =
+          let q : v + 1 ≡ suc v = omega arith in
+          let m : suc v ≤ highest = omega arith in
+          rw (ne-eqb flag 0 h, e, le-ltb highest (suc v) m, ← q, f)
+
+      pub filter-whole : (k : List ℕ) (z : Coder) → coefficientsOf s rows (v + 1) 0 unused d ≡ value k z
+          → filterOf s orders rows w highest flag c ≡ value (record { order = v + 1; coefficients = k }) z
+      unfolding filterOf sentOf
+      filter-whole k z f =
+          let q : v + 1 ≡ suc v = omega arith in
+          let m : suc v ≤ highest = omega arith in
+          rw (ne-eqb flag 0 h, e, le-ltb highest (suc v) m, ← q, f)

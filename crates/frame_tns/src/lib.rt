@@ -50,12 +50,13 @@ fn coefficients(s: &[u8], rows: &[u16], n: usize, out: &mut [u8], first: Coder) 
     CoefficientsRead::Value(c)
 }
 
-// One filter: nothing is sent where its flag is 0. `out` comes as eight zeros.
+// One filter: nothing is sent where its flag is 0, and no order above the highest. `out` comes as eight zeros.
 pub fn filter(
     s: &[u8],
     orders: &[u16],
     rows: &[u16],
     w: usize,
+    highest: usize,
     flag: u8,
     out: &mut [u8],
     c: Coder,
@@ -66,18 +67,24 @@ pub fn filter(
     requires { ⌜ now out ≡ unused ⌝ }
     ensures { λ r. ⌜
         filterGiven r (now (out .exit))
-        ≡ filterOf (now (s .entry)) (now (orders .entry)) (now (rows .entry)) w flag c
+        ≡ filterOf (now (s .entry)) (now (orders .entry)) (now (rows .entry)) w highest flag c
         ⌝ }
-    ensures { λ r. ⌜ GoodFilter (now (s .entry)) c r ⌝ }
+    ensures { λ r. ⌜ GoodFilter (now (s .entry)) highest c r ⌝ }
 {
     if flag == 0 {
         return FilterRead::Value(0, c);
     }
     match decode(s, orders, w * 9, 7, c) {
         Symbol::Cause(k) => FilterRead::Cause(k),
-        Symbol::Value(v, next) => match coefficients(s, rows, v + 1, out, next) {
-            CoefficientsRead::Cause(k) => FilterRead::Cause(k),
-            CoefficientsRead::Value(end) => FilterRead::Value((v + 1) as u8, end),
-        },
+        Symbol::Value(v, next) => {
+            let order = v + 1;
+            if highest < order {
+                return FilterRead::Cause(8);
+            }
+            match coefficients(s, rows, order, out, next) {
+                CoefficientsRead::Cause(k) => FilterRead::Cause(k),
+                CoefficientsRead::Value(end) => FilterRead::Value(order as u8, end),
+            }
+        }
     }
 }

@@ -7,14 +7,14 @@ use Rattle.gf16.specs.Field.{product}
 use Rattle.code_word_laws.specs.Polynomial.{generator}
 use Rattle.slot_laws.specs.Sizes.{words, wordLength}
 use Rattle.frame_bits.specs.Read.{value, cause}
-use Rattle.frame_settings.specs.Settings.{rateOf}
+use Rattle.frame_settings.specs.Settings.{settingOf}
 use Rattle.frame_bits.specs.Bits.{readBit, readBits}
 use Rattle.frame_side.specs.Side.{headOf}
 use Rattle.frame_pair.specs.Pair.{Streams, planeOf, lastOf, contextOf, signedOf, pairOf}
 use Rattle.frame_pair.specs.declared.Last.{Last}
 use Rattle.frame_coder.specs.declared.Coder.{Coder}
 use Rattle.frame_settings.specs.declared.Setting.{Setting}
-use Rattle.frame_settings.specs.declared.Rate.the-variants as rate
+use Rattle.frame_settings.specs.declared.Settled.the-variants as settled
 use Rattle.record_forms.specs.declared.Form.the-variants as form
 use Rattle.record_bytes.specs.Layout.{recordBytes}
 
@@ -47,8 +47,8 @@ pub record SmallSums (at24 at48 : Setting) : Type 0 where
   pub highest : (s look cum : List ℕ) (lsb base context p : ℕ) (c : Coder) (k : Streams)
       → lastOf s look cum lsb base 14 0 0 0 c p ≡ value lastSet k
       → pairOf s look cum lsb base context c p ≡ signedOf s context 32767 32767 lastSet (k .coder) (k .side)
-  -- the settings of 24 and 48 kHz
-  pub rates : (rateOf 24 ≡ rate.Known at24) × (rateOf 48 ≡ rate.Known at48)
+  -- the settings of 24 and 48 kHz at 10 ms
+  pub rates : (settingOf 24 40 ≡ settled.Known at24) × (settingOf 48 40 ≡ settled.Known at48)
   -- "at 48 kHz field 199 gives line 400"
   pub line-400 : (s : List ℕ) (b m g : ℕ) → b ≤ 4
       → readBits s 0 3 ≡ value b 3 → readBits s 3 8 ≡ value 199 11 → readBits s 11 1 ≡ value m 12 → readBits s 12 8 ≡ value g 20

@@ -1,8 +1,8 @@
-// A frame read into its fields under C names, lent as it is or as an entry of a record, and the number of lines. It stands over
-// `silberlaus_sizes`, `silberlaus_frames` and `silberlaus_entries`.
+// A frame read into its fields under C names, lent as it is or as an entry of a record, and the number of lines. A duration is in quarter
+// milliseconds. It stands over `silberlaus_sizes`, `silberlaus_frames` and `silberlaus_entries`.
 ghost use mathlib.Core.Path.{_≡_};
 ghost use lib.ListN.{length};
-ghost use Rattle.frame_settings.specs.Settings.{lineCount};
+ghost use Rattle.frame_settings.specs.Settings.{lineCount, lastCauseOf, settingOf};
 ghost use Rattle.frame.specs.Frame.{judgedOf};
 ghost use Rattle.frame_arithmetic.specs.Answers.{Answers};
 ghost use Rattle.frame_arithmetic.specs.Sound.{Bounded};
@@ -10,30 +10,31 @@ ghost use Rattle.silberlaus_entries.specs.Entries.{judgedEntry};
 ghost use Rattle.silberlaus_frames.specs.Frames.{frameGiven};
 use silberlaus_frames::SilberlausFrame;
 
-// The lines of a rate, 0 where it is none.
+// The lines of a rate and a duration, 0 where one of them is none.
 #[no_mangle]
-pub extern "C" fn silberlaus_line_count(khz: u32) -> usize
-    ensures { λ r. ⌜ r ≡ lineCount khz ⌝ }
+pub extern "C" fn silberlaus_line_count(khz: u32, duration: u32) -> usize
+    ensures { λ r. ⌜ r ≡ lineCount khz duration ⌝ }
 {
-    silberlaus_sizes::line_count(khz)
+    silberlaus_sizes::line_count(khz, duration)
 }
 
 // A frame read, or refused with 1, 2 or 5.
 #[no_mangle]
 pub extern "C" fn silberlaus_read_frame(
     khz: u32,
+    duration: u32,
     bytes: &[u8],
     spectrum: &mut [i32],
     residual: &mut [u8],
 ) -> SilberlausFrame
     ensures { λ r. ⌜
         Answers (frameGiven r)
-        (judgedOf khz (now (bytes .entry)) (length (now (spectrum .entry))) (length (now (residual .entry))))
+        (judgedOf khz duration (now (bytes .entry)) (length (now (spectrum .entry))) (length (now (residual .entry))))
         (now (spectrum .entry)) (now (spectrum .exit)) (now (residual .entry)) (now (residual .exit))
         ⌝ }
-    ensures { λ r. ⌜ Bounded (frameGiven r) (now (spectrum .exit)) ⌝ }
+    ensures { λ r. ⌜ Bounded (lastCauseOf (settingOf khz duration)) (frameGiven r) (now (spectrum .exit)) ⌝ }
 {
-    silberlaus_frames::read_frame(khz, bytes, spectrum, residual)
+    silberlaus_frames::read_frame(khz, duration, bytes, spectrum, residual)
 }
 
 // The frame of a record's entry read, or refused with 1, 2, 7 or 5.
@@ -43,15 +44,16 @@ pub extern "C" fn silberlaus_read_entry(
     bytes: &[u8],
     place: usize,
     khz: u32,
+    duration: u32,
     spectrum: &mut [i32],
     residual: &mut [u8],
 ) -> SilberlausFrame
     ensures { λ r. ⌜
         Answers (frameGiven r)
-        (judgedEntry form khz (now (bytes .entry)) place (length (now (spectrum .entry))) (length (now (residual .entry))))
+        (judgedEntry form khz duration (now (bytes .entry)) place (length (now (spectrum .entry))) (length (now (residual .entry))))
         (now (spectrum .entry)) (now (spectrum .exit)) (now (residual .entry)) (now (residual .exit))
         ⌝ }
-    ensures { λ r. ⌜ Bounded (frameGiven r) (now (spectrum .exit)) ⌝ }
+    ensures { λ r. ⌜ Bounded (lastCauseOf (settingOf khz duration)) (frameGiven r) (now (spectrum .exit)) ⌝ }
 {
-    silberlaus_entries::read_entry(form, bytes, place, khz, spectrum, residual)
+    silberlaus_entries::read_entry(form, bytes, place, khz, duration, spectrum, residual)
 }

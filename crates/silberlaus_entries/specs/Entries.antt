@@ -5,12 +5,12 @@ use mathlib.Core.List.{List}
 use Prim.Native.Nat.{ℕ}
 use lib.Dec.{ltb, eqb}
 use lib.ListN.{length}
-use Rattle.frame_settings.specs.Settings.{rateOf}
+use Rattle.frame_settings.specs.Settings.{settingOf}
 use Rattle.frame_arithmetic.specs.Answers.{Judged, refused, judgedRead}
 use Rattle.frame.specs.Frame.{frameOf}
 use Rattle.frame_settings.specs.declared.Setting.{Setting}
-use Rattle.frame_settings.specs.declared.Rate.{Rate}
-use Rattle.frame_settings.specs.declared.Rate.the-variants as rate
+use Rattle.frame_settings.specs.declared.Settled.{Settled}
+use Rattle.frame_settings.specs.declared.Settled.the-variants as settled
 use Rattle.record_forms.specs.declared.Form.{Form}
 use Rattle.record_forms.specs.Forms.{whichForm}
 use Rattle.record_bytes.specs.Layout.{RecordEntry}
@@ -22,14 +22,14 @@ abbrev pub judgedPlace : Setting → Option (List RecordEntry) → ℕ → Judge
 judgedPlace r none place = refused 7 0
 judgedPlace r (some es) place = cond (ltb place (length es)) (judgedRead (frameOf (frameAt es place) r)) (refused 1 0)
 
--- the rate 1, the two buffers 2
-abbrev pub judgedIn : Rate → Form → List ℕ → ℕ → ℕ → ℕ → Judged
-judgedIn rate.Unknown f s place x b = refused 1 0
-judgedIn (rate.Known r) f s place x b = cond (eqb x (r .lines) && eqb b (r .lines)) (judgedPlace r (readRecord f s) place) (refused 2 0)
+-- the rate and the duration 1, the two buffers 2
+abbrev pub judgedIn : Settled → Form → List ℕ → ℕ → ℕ → ℕ → Judged
+judgedIn settled.Unknown f s place x b = refused 1 0
+judgedIn (settled.Known r) f s place x b = cond (eqb x (r .lines) && eqb b (r .lines)) (judgedPlace r (readRecord f s) place) (refused 2 0)
 
--- of a form, which is a 1 before all else, a rate, a record and a place, and the lengths of the two lent buffers
-unfoldable pub judgedEntry : ℕ → ℕ → List ℕ → ℕ → ℕ → ℕ → Judged
-judgedEntry form khz s place x b = inForm (whichForm form) (refused 1 0) (λ f. judgedIn (rateOf khz) f s place x b)
+-- of a form, which is a 1 before all else, a rate and a duration, a record and a place, and the lengths of the two lent buffers
+unfoldable pub judgedEntry : ℕ → ℕ → ℕ → List ℕ → ℕ → ℕ → ℕ → Judged
+judgedEntry form khz q s place x b = inForm (whichForm form) (refused 1 0) (λ f. judgedIn (settingOf khz q) f s place x b)
 
 -- the record's own number for a place
 abbrev pub missing : ℕ → List ℕ → ℕ → ℕ

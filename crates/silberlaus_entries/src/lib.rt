@@ -2,6 +2,7 @@
 // Inner: `silberlaus` stands over it. It asks nothing.
 ghost use mathlib.Core.Path.{_≡_};
 ghost use lib.ListN.{length};
+ghost use Rattle.frame_settings.specs.Settings.{lastCauseOf, settingOf};
 ghost use Rattle.frame_arithmetic.specs.Answers.{Answers};
 ghost use Rattle.frame_arithmetic.specs.Sound.{Bounded};
 ghost use Rattle.silberlaus_frames.specs.Frames.{frameGiven};
@@ -25,21 +26,22 @@ pub fn read_entry(
     bytes: &[u8],
     place: usize,
     khz: u32,
+    duration: u32,
     spectrum: &mut [i32],
     residual: &mut [u8],
 ) -> SilberlausFrame
     ensures { λ r. ⌜
         Answers (frameGiven r)
-        (judgedEntry form khz (now (bytes .entry)) place (length (now (spectrum .entry))) (length (now (residual .entry))))
+        (judgedEntry form khz duration (now (bytes .entry)) place (length (now (spectrum .entry))) (length (now (residual .entry))))
         (now (spectrum .entry)) (now (spectrum .exit)) (now (residual .entry)) (now (residual .exit))
         ⌝ }
-    ensures { λ r. ⌜ Bounded (frameGiven r) (now (spectrum .exit)) ⌝ }
+    ensures { λ r. ⌜ Bounded (lastCauseOf (settingOf khz duration)) (frameGiven r) (now (spectrum .exit)) ⌝ }
 {
     let which = which_form(form);
     let Which::Is(_) = which else {
         return unread(1);
     };
-    let lines = frame::line_count(khz);
+    let lines = frame::line_count(khz, duration);
     if lines == 0 {
         return unread(1);
     }
@@ -53,5 +55,5 @@ pub fn read_entry(
     if part.len() == 0 {
         return unread(why_missing(form, bytes, place));
     }
-    numbered(frame::read(khz, part, spectrum, residual))
+    numbered(frame::read(khz, duration, part, spectrum, residual))
 }

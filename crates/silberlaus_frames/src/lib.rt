@@ -2,6 +2,7 @@
 // Inner: `silberlaus_entries` and `silberlaus` stand over it. It asks nothing.
 ghost use mathlib.Core.Path.{_≡_};
 ghost use lib.ListN.{length};
+ghost use Rattle.frame_settings.specs.Settings.{lastCauseOf, settingOf};
 ghost use Rattle.frame.specs.Frame.{judgedOf};
 ghost use Rattle.frame_answers.specs.Answers.{noFields, refusedWith, told};
 ghost use Rattle.frame_arithmetic.specs.Answers.{Answers};
@@ -144,16 +145,17 @@ pub fn numbered(r: Reading) -> SilberlausFrame
 // A frame read, or refused with 1, 2 or 5.
 pub fn read_frame(
     khz: u32,
+    duration: u32,
     bytes: &[u8],
     spectrum: &mut [i32],
     residual: &mut [u8],
 ) -> SilberlausFrame
     ensures { λ r. ⌜
         Answers (frameGiven r)
-        (judgedOf khz (now (bytes .entry)) (length (now (spectrum .entry))) (length (now (residual .entry))))
+        (judgedOf khz duration (now (bytes .entry)) (length (now (spectrum .entry))) (length (now (residual .entry))))
         (now (spectrum .entry)) (now (spectrum .exit)) (now (residual .entry)) (now (residual .exit))
         ⌝ }
-    ensures { λ r. ⌜ Bounded (frameGiven r) (now (spectrum .exit)) ⌝ }
+    ensures { λ r. ⌜ Bounded (lastCauseOf (settingOf khz duration)) (frameGiven r) (now (spectrum .exit)) ⌝ }
 {
-    numbered(frame::read(khz, bytes, spectrum, residual))
+    numbered(frame::read(khz, duration, bytes, spectrum, residual))
 }

@@ -1,4 +1,4 @@
-// What a caller asks before he lends buffers: a frame's bytes in a slot, and the lines of a rate. It stands over `slot_sizes` and
+// What a caller asks before he lends buffers: a frame's bytes in a slot, and the lines of a rate and a duration. It stands over `slot_sizes` and
 // `frame_settings`.
 // Inner: `silberlaus` stands over it. It asks nothing.
 ghost use mathlib.Core.Path.{_≡_};
@@ -12,9 +12,9 @@ pub fn frame_size(size: usize, mode: u32) -> usize
     slot_sizes::frame_size(size, mode)
 }
 
-// The lines of a rate, 0 where it is none.
-pub fn line_count(khz: u32) -> usize
-    ensures { λ r. ⌜ r ≡ lineCount khz ⌝ }
+// The lines of a rate and a duration, 0 where one of them is none.
+pub fn line_count(khz: u32, duration: u32) -> usize
+    ensures { λ r. ⌜ r ≡ lineCount khz duration ⌝ }
 {
-    frame_settings::line_count(khz)
+    frame_settings::line_count(khz, duration)
 }

@@ -2,12 +2,12 @@
 use Prim.Native.Nat.{ℕ, _≤_}
 use mathlib.Core.Path.{subst⁻¹}
 use borrow.Author.Needs.{needs}
-use Rattle.frame_settings.proofs.Rates.{lines-most}
+use Rattle.frame_settings.proofs.Settings.{lines-most}
 use Rattle.day_way.proofs.lines_at.Statement.{statement}
 use Rattle.day_way.proofs.lines_at.Tie as tie
 
 returns : tie.Need-returns
-returns c = subst⁻¹ (λ (n : ℕ). n ≤ 400) (c .line-count .ensures) (lines-most (c .before .args .khz))
+returns c = subst⁻¹ (λ (n : ℕ). n ≤ 400) (c .line-count .ensures) (lines-most (c .before .args .khz) (c .before .args .duration))
 
 pub lines-at-spec : {M : Type 1} → statement M
 lines-at-spec =

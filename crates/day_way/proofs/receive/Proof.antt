@@ -10,10 +10,15 @@ keep-requires c κs =
     let start = k .before .before .before .before .before .before .before .before .before .before .before .before .before in
     omega (arith, k .out .given, start .pre .1)
 
+-- the place where slot and frame came back
+abbrev carried : tie.After-slice-known6 → tie.After-out
+carried c = c .before .before .before .before .before .before .before .before .before .before .before .before .before
+
 same-length-3 : tie.Need-same-length-3
-same-length-3 c =
-    let k = c .before .before .before .before .before .before .before .before .before .before .before .before .before .before .before in
-    search (needs, k .slot .given)
+same-length-3 c = search (needs, carried c .before .before .slot .given)
+
+same-length-4 : tie.Need-same-length-4
+same-length-4 c = search (needs, carried c .out .given)
 
 pub receive-spec : {M : Type 1} → statement M
 receive-spec =
@@ -23,5 +28,5 @@ receive-spec =
     (λ c. search needs) (λ c κs. search needs) (λ c κs. search needs) (λ c. search needs)
     (λ c. search needs) (λ c. search needs) (λ c. search needs) (λ c. search needs) (λ c κs. search needs)
     (λ c κs. search needs) (λ c. search needs) (λ c. search needs) (λ c. search needs)
-    (λ c κs. search needs) keep-requires same-length-3 (λ c. search needs) (λ c. search needs)
+    (λ c κs. search needs) keep-requires same-length-3 same-length-4 (λ c. search needs)
     (λ c. search needs))

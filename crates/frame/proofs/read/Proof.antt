@@ -10,18 +10,18 @@ use denote.Ref.{now}
 use Rattle.frame.specs.Frame.{judgedOf}
 use Rattle.frame_arithmetic.specs.Answers.{refused}
 use Rattle.frame_arithmetic.proofs.ArithmeticSteps.{answers-by, answers-setting}
-use Rattle.frame.proofs.WholeFrame.{judged-unknown, judged-short, judged-long, judged-known}
+use Rattle.frame.proofs.WholeFrame.{judged-unknown, judged-short, judged-long, judged-known, causes-known}
 
 returns : tie.Need-returns
 returns c =
     let z = c .before .before .before .before .before .before .args in
-    let e = sym (c .before .before .before .rate-setting .ensures .0) ∙ c .before .enum-told .given .1 in
-    answers-setting (c .refused .result) _ _ _ (c .refused .ensures) (judged-unknown (z .khz) (now (z .frame)) _ _ e)
+    let e = sym (c .before .before .before .setting-of .ensures .0) ∙ c .before .enum-told .given .1 in
+    answers-setting _ (c .refused .result) _ _ _ (c .refused .ensures) (judged-unknown (z .khz) (z .duration) (now (z .frame)) _ _ e)
 
 read-sized-requires : tie.Need-read-sized-requires
 read-sized-requires c κs =
     let b = c .before .before .before .before .before in
-    let k = rw (b .known .given .1) at (b .before .before .rate-setting .ensures .1) in
+    let k = rw (b .settled .given .1) at (b .before .before .setting-of .ensures .1) in
     (k, record { least = omega arith; most = omega arith })
 
 returns-2 : tie.Need-returns-2
@@ -29,24 +29,24 @@ returns-2 c =
     let r = c .before .before .before .read-sized in
     let b = c .before .before .before .before .before .before .before .before .before .before .before in
     let z = b .before .before .before .args in
-    let k = c .before .before .before .before .before .before .before .before .before .known in
-    let e = sym (b .rate-setting .ensures .0) ∙ k .given .1 in
-    let j = judged-known (z .khz) (now (z .frame)) _ _ _ e (omega arith) (omega arith) in
-    answers-by (r .result) _ _ _ _ _ _ j (r .ensures)
+    let k = c .before .before .before .before .before .before .before .before .before .settled in
+    let e = sym (b .setting-of .ensures .0) ∙ k .given .1 in
+    let j = judged-known (z .khz) (z .duration) (now (z .frame)) _ _ _ e (omega arith) (omega arith) in
+    answers-by _ _ (r .result) _ _ _ _ _ _ (causes-known (z .khz) (z .duration) _ e) j (r .ensures)
 
 -- a length that no arm but the last takes
 outside : (c : tie.Joined1) → let z = c .before .before .before .before .before .before .before .args in
-    judgedOf (z .khz) (now (z .frame)) (length (now (z .spectrum))) (length (now (z .residual))) ≡ refused 1 0
+    judgedOf (z .khz) (z .duration) (now (z .frame)) (length (now (z .spectrum))) (length (now (z .residual))) ≡ refused 1 0
 outside c =
     let z = c .before .before .before .before .before .before .before .args in
-    let e = sym (c .before .before .before .before .rate-setting .ensures .0) ∙ c .before .before .known .given .1 in
+    let e = sym (c .before .before .before .before .setting-of .ensures .0) ∙ c .before .before .settled .given .1 in
     ⊎-elim
-    (λ w. judged-short (z .khz) (now (z .frame)) _ _ _ e (w .taken))
-    (λ w. judged-long (z .khz) (now (z .frame)) _ _ _ e (w .0 .left) (w .1 .left))
+    (λ w. judged-short (z .khz) (z .duration) (now (z .frame)) _ _ _ e (w .taken))
+    (λ w. judged-long (z .khz) (z .duration) (now (z .frame)) _ _ _ e (w .0 .left) (w .1 .left))
     (c .if1 .came)
 
 returns-3 : tie.Need-returns-3
-returns-3 c = answers-setting (c .refused2 .result) _ _ _ (c .refused2 .ensures) (outside (c .before))
+returns-3 c = answers-setting _ (c .refused2 .result) _ _ _ (c .refused2 .ensures) (outside (c .before))
 
 pub read-spec : {M : Type 1} → statement M
 read-spec =

@@ -12,13 +12,13 @@ use Rattle.frame.proofs.WholeFrame.{judged-spectrum, judged-residual, j
 returns : tie.Need-returns
 returns c =
     let z = c .before .before .before .before .args in
-    answers-length (c .refused .result) _ _ _ (c .refused .ensures) (judged-spectrum (z .r) (now (z .frame)) _ _ (c .before .if1 .taken))
+    answers-length _ (c .refused .result) _ _ _ (c .refused .ensures) (judged-spectrum (z .r) (now (z .frame)) _ _ (c .before .if1 .taken))
 
 returns-2 : tie.Need-returns-2
 returns-2 c =
     let z = c .before .before .before .before .before .args in
     let j = judged-residual (z .r) (now (z .frame)) _ _ (c .before .before .if1 .left) (c .before .if2 .taken) in
-    answers-length (c .refused2 .result) _ _ _ (c .refused2 .ensures) j
+    answers-length _ (c .refused2 .result) _ _ _ (c .refused2 .ensures) j
 
 returns-3 : tie.Need-returns-3
 returns-3 c =
@@ -27,8 +27,8 @@ returns-3 c =
     let r = b .read-side in
     let e = side-refused (now (z .frame)) (z .r) (r .result) _ (r .ensures .0) (c .before .before .k .given .1) (r .ensures .1) in
     let j = judged-read (z .r) (now (z .frame)) _ _ (b .before .before .if1 .left) (b .before .if2 .left) in
-    let a = answers-cause (c .refused3 .result) _ _ _ _ _ _ (c .refused3 .ensures) (e .0) refl refl (e .1) in
-    answers-by (c .refused3 .result) _ _ _ _ _ _ j a
+    let a = answers-cause (z .r) (c .refused3 .result) _ _ _ _ _ _ (c .refused3 .ensures) (e .0) refl refl (e .1) in
+    answers-by _ _ (c .refused3 .result) _ _ _ _ _ _ refl j a
 
 read-arithmetic-requires : tie.Need-read-arithmetic-requires
 read-arithmetic-requires c κs =
@@ -44,7 +44,7 @@ returns-4 c =
     let z = b .before .before .before .before .before .args in
     let j = judged-read (z .r) (now (z .frame)) _ _ (b .before .before .if1 .left) (b .before .if2 .left) in
     let f = sym (b .read-side .ensures .0) ∙ ap sideGiven (c .before .before .before .before .before .before .before .v .given .1) in
-    answers-by (r .result) _ _ _ _ _ _ (j ∙ ap judgedRead (frame-rest (now (z .frame)) (z .r) _ _ f)) (r .ensures)
+    answers-by _ _ (r .result) _ _ _ _ _ _ refl (j ∙ ap judgedRead (frame-rest (now (z .frame)) (z .r) _ _ f)) (r .ensures)
 
 pub read-sized-spec : {M : Type 1} → statement M
 read-sized-spec =

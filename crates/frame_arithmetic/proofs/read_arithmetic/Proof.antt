@@ -48,25 +48,25 @@ filter-requires c κs =
 
 -- the first filter, as it was read
 first-found : (f : tie.After-filter)
-    → firstAt (now (entry (started f) .args .frame)) (entry (started f) .args .v)
-    ≡ filterGiven (f .filter .result) (f .filter .last .1 .1 .1 .1 .1 .0)
+    → let z = entry (started f) .args in firstAt (now (z .frame)) (z .r) (z .v)
+    ≡ filterGiven (f .filter .result) (f .filter .last .1 .1 .1 .1 .1 .1 .0)
 first-found f =
     let s = started f in
     let z = entry s .args in
     let o = s .before .before .before .before .tns-order .ensures in
     let k = s .before .before .before .tns-coefficients .ensures in
-    first-at (now (z .frame)) (z .v) _ _ _ _ _ o k (s .before .before .tns-weighting .ensures .0)
+    first-at (now (z .frame)) (z .r) (z .v) _ _ _ _ _ o k (s .before .before .tns-weighting .ensures .0)
     (s .start .ensures .0) (f .filter .ensures .0)
 
 abbrev filter-1 : tie.After-known-told2 → Filter
-filter-1 b = record { order = b .before .m .given .0 .0; coefficients = first b .filter .last .1 .1 .1 .1 .1 .0 }
+filter-1 b = record { order = b .before .m .given .0 .0; coefficients = first b .filter .last .1 .1 .1 .1 .1 .1 .0 }
 
 abbrev coder-1 : tie.After-known-told2 → Coder
 coder-1 b = b .before .m .given .0 .1 .0
 
 first-taken : (b : tie.After-known-told2)
-    → firstAt (now (entry (started (first b)) .args .frame)) (entry (started (first b)) .args .v) ≡ value (filter-1 b) (coder-1 b)
-first-taken b = first-found (first b) ∙ ap (λ (g : FilterRead). filterGiven g (first b .filter .last .1 .1 .1 .1 .1 .0))
+    → let z = entry (started (first b)) .args in firstAt (now (z .frame)) (z .r) (z .v) ≡ value (filter-1 b) (coder-1 b)
+first-taken b = first-found (first b) ∙ ap (λ (g : FilterRead). filterGiven g (first b .filter .last .1 .1 .1 .1 .1 .1 .0))
     (b .before .m .given .1)
 
 returns : tie.Need-returns
@@ -75,7 +75,7 @@ returns c =
     let z = entry (started f) .args in
     let i = c .before .before .k .given .1 in
     let e = first-refused _ (z .r) _ (z .p) _ (f .filter .result) _ _ (first-found f) i (f .filter .ensures .1) in
-    answers-cause (c .refused .result) _ _ _ _ _ _ (c .refused .ensures) (e .0) refl refl (e .1)
+    answers-cause (z .r) (c .refused .result) _ _ _ _ _ _ (c .refused .ensures) (e .0) refl refl (e .1)
 
 filter-requires-2 : tie.Need-filter-requires-2
 filter-requires-2 c κs =
@@ -90,21 +90,21 @@ filter-requires-2 c κs =
 
 -- the second filter, as it was read
 second-found : (g : tie.After-filter2) → let z = entry (started (first (before-second g))) .args in
-    secondAt (now (z .frame)) (z .v) (coder-1 (before-second g)) ≡ filterGiven (g .filter2 .result) (g .filter2 .last .1 .1 .1 .1 .1 .0)
+    secondAt (now (z .frame)) (z .r) (z .v) (coder-1 (before-second g)) ≡ filterGiven (g .filter2 .result) (g .filter2 .last .1 .1 .1 .1 .1 .1 .0)
 second-found g =
     let s = started (first (before-second g)) in
     let z = entry s .args in
     let o = s .before .before .before .before .tns-order .ensures in
     let k = s .before .before .before .tns-coefficients .ensures in
-    second-at (now (z .frame)) (z .v) _ _ _ _ _ o k (s .before .before .tns-weighting .ensures .0)
+    second-at (now (z .frame)) (z .r) (z .v) _ _ _ _ _ o k (s .before .before .tns-weighting .ensures .0)
     (g .filter2 .ensures .0)
 
 abbrev filter-2 : tie.After-known-told4 → Filter
-filter-2 b = record { order = b .before .n .given .0 .0; coefficients = second b .filter2 .last .1 .1 .1 .1 .1 .0 }
+filter-2 b = record { order = b .before .n .given .0 .0; coefficients = second b .filter2 .last .1 .1 .1 .1 .1 .1 .0 }
 
 second-taken : (b : tie.After-known-told4) → let z = entry (started (first (before-second (second b)))) .args in
-    secondAt (now (z .frame)) (z .v) (coder-1 (before-second (second b))) ≡ value (filter-2 b) (b .before .n .given .0 .1 .0)
-second-taken b = second-found (second b) ∙ ap (λ (g : FilterRead). filterGiven g (second b .filter2 .last .1 .1 .1 .1 .1 .0))
+    secondAt (now (z .frame)) (z .r) (z .v) (coder-1 (before-second (second b))) ≡ value (filter-2 b) (b .before .n .given .0 .1 .0)
+second-taken b = second-found (second b) ∙ ap (λ (g : FilterRead). filterGiven g (second b .filter2 .last .1 .1 .1 .1 .1 .1 .0))
     (b .before .n .given .1)
 
 returns-2 : tie.Need-returns-2
@@ -114,7 +114,7 @@ returns-2 c =
     let z = entry (started (first b)) .args in
     let i = c .before .before .k2 .given .1 in
     let e = second-refused _ (z .r) _ (z .p) _ _ (g .filter2 .result) _ _ (first-taken b) (second-found g) i (g .filter2 .ensures .1) in
-    answers-cause (c .refused2 .result) _ _ _ _ _ _ (c .refused2 .ensures) (e .0) refl refl (e .1)
+    answers-cause (z .r) (c .refused2 .result) _ _ _ _ _ _ (c .refused2 .ensures) (e .0) refl refl (e .1)
 
 read-spectral-requires : tie.Need-read-spectral-requires
 read-spectral-requires c κs =
@@ -144,7 +144,7 @@ returns-3 c =
     let e = third-refused _ (z .r) _ (z .p) _ _ _ _ (r .result) _ _ _ _ (first-taken d) (second-taken b) (r .ensures .0) i
     (r .ensures .1 .1) in
     let k = rw i at (r .ensures .1 .0) in
-    answers-cause (c .refused3 .result) _ _ _ _ _ _ (c .refused3 .ensures) (e .0) (k .0) (k .1) (e .1)
+    answers-cause (z .r) (c .refused3 .result) _ _ _ _ _ _ (c .refused3 .ensures) (e .0) (k .0) (k .1) (e .1)
 
 returns-4 : tie.Need-returns-4
 returns-4 c =
@@ -159,7 +159,7 @@ returns-4 c =
     let g = rw i at (r .ensures .1 .1) in
     let f = sym (r .ensures .0) ∙ ap (λ (y : SpectralRead). spectralGiven y l m) i in
     let e = arithmetic-value _ (z .r) _ (z .p) _ _ _ _ _ _ (first-taken d) (second-taken b) f in
-    answers-value _ (z .v) _ _ _ _ _ _ e g
+    answers-value _ _ (z .v) _ _ _ _ _ _ e g
 
 pub read-arithmetic-spec : {M : Type 1} → statement M
 read-arithmetic-spec =

@@ -15,4 +15,4 @@ pub rate-offset-spec : {M : Type 1} → statement M
 rate-offset-spec =
     tie.close
     (tie.spec
-    (λ c. search needs) (λ c. search needs) (λ c. search needs) returns returns-2)
+    (λ c. search needs) returns returns-2)

@@ -11,8 +11,8 @@ use Rattle.frame_side.proofs.read_flags.Tie as tie
 tns-1-below : (c : tie.After-read-bits2) → c .read-bits2 .result .value < 2
 tns-1-below c = in-more _ _ 1 (c .read-bits2 .ensures .below) (c .before .second-flag .ensures .1)
 
-cast-t9 : tie.Need-cast-t9
-cast-t9 c = let f = tns-1-below (c .before .before .before) in omega (arith, f)
+cast-t10 : tie.Need-cast-t10
+cast-t10 c = let f = tns-1-below (c .before .before .before) in omega (arith, f)
 
 returns : tie.Need-returns
 returns c =
@@ -23,7 +23,7 @@ returns c =
     let e2 = b .read-bits2 .ensures in
     let e3 = d .read-bits3 .ensures in
     record {
-      found = flags-done _ _ _ _ _ _ _ (n .0) e1 e2 e3;
+      found = flags-done _ _ _ _ _ _ _ _ (n .0) e1 e2 e3;
       pitch = e3 .below;
       next = omega (arith, e1 .next, e2 .next, e3 .next, n .1);
     }
@@ -33,4 +33,4 @@ read-flags-spec =
     tie.close
     (tie.spec
     (λ c κs. search needs) (λ c κs. search needs) (λ c κs. search needs) (λ c κs. search needs)
-    (λ c. search needs) cast-t9 (λ c. search needs) returns)
+    (λ c. search needs) cast-t10 (λ c. search needs) returns)

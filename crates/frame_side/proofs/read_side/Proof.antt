@@ -32,7 +32,7 @@ head-good c = rw (c .head .given .1) at (c .before .before .read-head .ensures .
 
 flags-good :
     (c : tie.After-read-flags) → let h = to-head c in let g = h .head .given .0 in
-    GoodFlags (now (start h .args .s)) (g .0 .bandwidth) (g .1 .0) (c .read-flags .result)
+    GoodFlags (now (start h .args .s)) (start h .args .r .filters) (g .0 .bandwidth) (g .1 .0) (c .read-flags .result)
 flags-good c = rw (c .before .wide .ensures .0) at (c .read-flags .ensures)
 
 shape-is :
@@ -45,7 +45,8 @@ shape-good : (c : tie.After-shape)
 shape-good c = rw (c .shape .given .1) at (c .before .before .read-shape .ensures .1)
 
 read-flags-requires : tie.Need-read-flags-requires
-read-flags-requires c κs = let h = c .before .before in (head-good h .1, start h .pre .1)
+read-flags-requires c κs = let h = c .before .before in let k = start h .pre .0 in
+    (k .filter, (k .filters, (head-good h .1, start h .pre .1)))
 
 read-shape-requires : tie.Need-read-shape-requires
 read-shape-requires c κs =

@@ -1,5 +1,6 @@
 -- `frame_side::second_flag` meets its contract. Assumes nothing.
 use native.Mathlib.Omega.{arith}
+use borrow.Author.Needs.{needs}
 use borrow.Author.Tests.{lt-ltb, le-ltb}
 use Rattle.frame_side.proofs.second_flag.Statement.{statement}
 use Rattle.frame_side.proofs.second_flag.Tie as tie
@@ -14,4 +15,4 @@ pub second-flag-spec : {M : Type 1} → statement M
 second-flag-spec =
     tie.close
     (tie.spec
-    returns returns-2)
+    (λ c. search needs) returns returns-2)

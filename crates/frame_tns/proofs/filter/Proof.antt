@@ -1,13 +1,15 @@
 -- `frame_tns::filter` meets its contract. Each return is one of the definition's answers. Assumes nothing.
 use mathlib.Core.Path.{_≡_, sym, ap}
-use Prim.Native.Nat.{_+_, _*_, _≤_}
+use Prim.Native.Nat.{_+_, _*_, _≤_, _<_}
 use native.Mathlib.Omega.{arith}
 use lib.ListN.{length}
 use borrow.Author.Needs.{needs}
+use borrow.Author.Tests.{lt-ltb}
 use Rattle.frame_bits.specs.Read.{value}
+use Rattle.frame_settings.proofs.TenMs.{least-causes}
 use Rattle.frame_coder.specs.Symbol.{symbolOf}
 use Rattle.frame_coder.specs.Sound.{Sound}
-use Rattle.frame_tns.proofs.CoefficientSteps.{filter-unused, no-order, no-coefficients, filter-whole}
+use Rattle.frame_tns.proofs.CoefficientSteps.{filter-unused, no-order, order-above, no-coefficients, filter-whole}
 use Rattle.frame_tns.proofs.filter.Statement.{statement}
 use Rattle.frame_tns.proofs.filter.Tie as tie
 
@@ -16,12 +18,12 @@ abbrev start : tie.After-decode → tie.Start
 start d = d .before .before .before .before .before .before
 
 abbrev to-order : tie.After-coefficients → tie.After-v
-to-order q = q .before .before .before
+to-order q = q .before .before .before .before
 
 returns : tie.Need-returns
 returns c =
     let h = c .before .before .before .before .before in
-    let f = sym (filter-unused _ _ _ _ _ _ (c .if1 .taken)) in
+    let f = sym (filter-unused _ _ _ _ _ _ _ (c .if1 .taken)) in
     (rw (h .pre .1 .1 .1) f, (omega arith, omega arith, h .pre .0 .sound))
 
 decode-requires : tie.Need-decode-requires
@@ -31,12 +33,6 @@ decode-requires c κs =
       record { sized = p .0 .sized; sound = p .0 .sound; taken = omega (arith, p .0 .taken) },
       record { row = p .1 .0 .order (h .args .w) (p .1 .1 .0); place = omega arith; short = omega arith },
     )
-
-returns-2 : tie.Need-returns-2
-returns-2 c =
-    let d = c .before .before .before in
-    let e = c .before .k .given .1 in
-    (sym (no-order _ _ _ _ _ _ _ (d .before .if1 .left) (sym (rw e at (d .decode .ensures .0)))), rw e at (d .decode .ensures .1))
 
 -- the order and the stream behind it: what the definition has, and what is known of them
 order-is :
@@ -48,12 +44,23 @@ order : (c : tie.After-v) → let a = start (c .before .before) .args in let g =
     (g .0 ≤ 7) × (g .1 .0 .taken ≡ a .c .taken + 1) × Sound (a .s .now) (g .1 .0)
 order c = rw (c .v .given .1) at (c .before .before .decode .ensures .1)
 
-add-coefficients : tie.Need-add-coefficients
-add-coefficients c = let m = order (c .before) .0 in record { fits = omega arith }
+add-order : tie.Need-add-order
+add-order c = let m = order (c .before) .0 in record { fits = omega arith }
+
+-- an order that a symbol says is above the highest only where that is below 8
+returns-2 : tie.Need-returns-2
+returns-2 c =
+    let v = c .before .before in
+    let d = v .before .before in
+    let m = order v .0 in
+    let l : start d .args .highest < 8 = omega (arith, m, c .if2 .taken) in (
+      sym (order-above _ _ _ _ _ _ _ (d .before .if1 .left) _ _ (order-is v) (c .if2 .taken)),
+      (omega arith, rw (lt-ltb (start d .args .highest) 8 l) (omega arith)),
+    )
 
 coefficients-requires : tie.Need-coefficients-requires
 coefficients-requires c κs =
-    let v = c .before .before in
+    let v = c .before .before .before in
     let p = start (v .before .before) .pre in
     let g = order v in
     let m = g .0 in (
@@ -61,23 +68,33 @@ coefficients-requires c κs =
       (p .1 .0 .coefficient, (omega arith, ap length (p .1 .1 .1))),
     )
 
+cast-t24 : tie.Need-cast-t24
+cast-t24 c = let m = order (to-order (c .before .before .before .before .before)) .0 in record { fits = omega arith }
+
+-- causes 4 to 6 are there at every setting
 returns-3 : tie.Need-returns-3
 returns-3 c =
+    let d = c .before .before .before in
+    let e = c .before .k .given .1 in
+    let g = rw e at (d .decode .ensures .1) in (
+      sym (no-order _ _ _ _ _ _ _ _ (d .before .if1 .left) (sym (rw e at (d .decode .ensures .0)))),
+      (g .0, omega (arith, g .1, least-causes (start d .args .highest))),
+    )
+
+returns-4 : tie.Need-returns-4
+returns-4 c =
     let q = c .before .before .before .before .before in
     let v = to-order q in
     let d = v .before .before in
     let e = c .before .k2 .given .1 in
     let z = sym (rw (e, start d .pre .1 .1 .1) at (q .coefficients .ensures .0)) in
-    (sym (no-coefficients _ _ _ _ _ _ _ _ _ (d .before .if1 .left) (order-is v) z), rw e at (q .coefficients .ensures .1))
+    let g = rw e at (q .coefficients .ensures .1) in (
+      sym (no-coefficients _ _ _ _ _ _ _ (d .before .if1 .left) _ _ (order-is v) (q .before .before .if2 .left) _ z),
+      (g .0, omega (arith, g .1, least-causes (start d .args .highest))),
+    )
 
-add-t22 : tie.Need-add-t22
-add-t22 c = let m = order (to-order (c .before .before .before .before .before)) .0 in record { fits = omega arith }
-
-cast-t23 : tie.Need-cast-t23
-cast-t23 c = let m = order (to-order (c .before .before .before .before .before)) .0 in record { fits = omega arith }
-
-returns-4 : tie.Need-returns-4
-returns-4 c =
+returns-5 : tie.Need-returns-5
+returns-5 c =
     let q = c .before .before .before .before .before in
     let v = to-order q in
     let d = v .before .before in
@@ -85,7 +102,7 @@ returns-4 c =
     let z = sym (rw (e, start d .pre .1 .1 .1) at (q .coefficients .ensures .0)) in
     let g = rw e at (q .coefficients .ensures .1) in
     let m = order v in (
-      sym (filter-whole _ _ _ _ _ _ _ _ _ _ (d .before .if1 .left) (order-is v) z),
+      sym (filter-whole _ _ _ _ _ _ _ (d .before .if1 .left) _ _ (order-is v) (q .before .before .if2 .left) _ _ z),
       (omega (arith, m .0), omega (arith, m .0, m .1, g .0), g .1),
     )
 
@@ -93,6 +110,6 @@ pub filter-spec : {M : Type 1} → statement M
 filter-spec =
     tie.close
     (tie.spec
-    returns (λ c. search needs) decode-requires (λ c. search needs) (λ c. search needs) add-coefficients
-    coefficients-requires (λ c. search needs) (λ c. search needs) add-t22 cast-t23 returns-2
-    (λ c. search needs) returns-3 (λ c. search needs) returns-4)
+    returns (λ c. search needs) decode-requires (λ c. search needs) (λ c. search needs) add-order returns-2
+    coefficients-requires (λ c. search needs) (λ c. search needs) cast-t24 returns-3 (λ c. search needs) returns-4
+    (λ c. search needs) returns-5)

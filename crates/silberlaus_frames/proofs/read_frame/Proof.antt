@@ -8,7 +8,7 @@ use Rattle.silberlaus_frames.proofs.Returns.{reading}
 returns : tie.Need-returns
 returns c =
     let r = c .before .before .before .before .read in
-    reading _ _ (r .result) (c .numbered .result) _ _ _ _ refl (c .numbered .ensures)
+    reading _ _ _ (r .result) (c .numbered .result) _ _ _ _ refl (c .numbered .ensures)
     (r .ensures .0) (r .ensures .1)
 
 pub read-frame-spec : {M : Type 1} → statement M
