@@ -23,7 +23,7 @@ RECORD_BUILT := target/tests/record
 FACE := tests/face
 FACE_BUILT := target/tests/face
 FRAME := tests/frame
-FRAME_PARTS := $(addprefix $(FRAME)/,list.c judge.c tries.c refusals.c lend.c reference.c)
+FRAME_PARTS := $(addprefix $(FRAME)/,held.c list.c judge.c tries.c refusals.c made.c make.c plans.c lend.c reference.c)
 # FRAME_READER=tests/frame/stand_in.c tries the frame's tests and the benchmark without the archive's reader, and builds
 # them in a folder of their own
 FRAME_READER := $(FACE_ARCHIVE)
@@ -43,7 +43,7 @@ bench: $(BENCH_BUILT)/bench
 bench-words: $(BUILT)/bench
 	@$(BUILT)/bench
 
-build-tests: $(BUILT)/check $(BUILT)/bench $(SLOT_BUILT)/check $(FRAME_BUILT)/check target/tests/frame/durations \
+build-tests: $(BUILT)/check $(BUILT)/bench $(SLOT_BUILT)/check $(FRAME_BUILT)/check target/tests/frame/check_reference \
 		$(RECORD_BUILT)/check $(BENCH_BUILT)/bench $(FACE_BUILT)/check $(FACE_BUILT)/from_cpp
 
 faults:
@@ -99,8 +99,8 @@ $(FRAME_BUILT)/check: $(FRAME)/check.c $(FRAME_PARTS) $(CASES) $(FRAME_READER) $
 	$(CC) $(CFLAGS) -o $@ $(filter %.c,$^) $(filter %.a,$^)
 
 # the reference alone: it wants no archive
-target/tests/frame/durations: $(addprefix $(FRAME)/,durations.c made.c make.c plans.c) $(FRAME_PARTS) $(CASES) \
-		$(wildcard $(FRAME)/*.h) $(CASES:.c=.h) include/silberlaus.h
+target/tests/frame/check_reference: $(FRAME)/check_reference.c $(FRAME_PARTS) $(CASES) $(wildcard $(FRAME)/*.h) $(CASES:.c=.h) \
+		include/silberlaus.h
 	@mkdir -p $(@D)
 	$(CC) $(CFLAGS) -o $@ $(filter %.c,$^)
 
@@ -117,7 +117,8 @@ $(BENCH_BUILT)/aligned.a: $(FACE_ARCHIVE)
 $(BENCH_BUILT)/bench: LC3_FLAGS = $(shell $(FRAME)/lc3 flags $(CC) $(CFLAGS))
 $(BENCH_BUILT)/bench: CFLAGS += -falign-functions=64
 $(BENCH_BUILT)/bench: $(wildcard $(BENCH)/*.c) $(SLOT)/damage.c $(SLOT)/reference.c $(QUICK) $(WORDS)/search.c \
-		$(FRAME)/lend.c $(FRAME)/reference.c $(RECORD)/reference.c $(CASES) $(filter %.c,$(FRAME_READER)) $(BENCH_BUILT)/aligned.a \
+		$(addprefix $(FRAME)/,lend.c make.c reference.c) $(RECORD)/reference.c $(CASES) $(filter %.c,$(FRAME_READER)) \
+		$(BENCH_BUILT)/aligned.a \
 		$(wildcard $(addsuffix /*.h,$(BENCH) $(SLOT) $(WORDS) $(FRAME) $(RECORD))) $(CASES:.c=.h) include/silberlaus.h
 	@mkdir -p $(BENCH_BUILT)
 	$(CC) $(CFLAGS) $(if $(filter %.c,$(FRAME_READER)),-DFRAME_STAND_IN) -o $@ $(filter %.c,$^) $(filter %.a,$^) $(LC3_FLAGS)

@@ -30,7 +30,8 @@ extern "C" {
 
 enum {
   SILBERLAUS_ACCEPTED = 0,
-  SILBERLAUS_BAD_SETTING = 1,   /* a setting out of range; for the record also its used length, its entry, a place */
+  SILBERLAUS_BAD_SETTING = 1,   /* a setting out of range, be it size, mode, rate, duration or form; for the record also its
+                                   used length, its entry, a place */
   SILBERLAUS_BAD_LENGTH = 2,    /* a lent buffer has not the exact length named */
   SILBERLAUS_BEYOND_REPAIR = 3, /* some code word has no valid word within mode - 1 semi-octets */
   SILBERLAUS_FOREIGN = 4,       /* every word was corrected, and no frame and request make that slot */
@@ -43,12 +44,13 @@ enum {
 
 enum {
   SILBERLAUS_CAUSE_BANDWIDTH = 1,   /* the bandwidth is above the rate's */
-  SILBERLAUS_CAUSE_LAST_LINE = 2,   /* the last line is above the rate's number of lines */
+  SILBERLAUS_CAUSE_LAST_LINE = 2,   /* the last line is above the number of lines of the rate and the duration */
   SILBERLAUS_CAUSE_JOINT_INDEX = 3, /* the shape's joint index is too large */
   SILBERLAUS_CAUSE_ARITHMETIC = 4,  /* the arithmetic value is at or above the scaled range */
   SILBERLAUS_CAUSE_ESCAPES = 5,     /* fourteen escapes in a pair */
   SILBERLAUS_CAUSE_CROSSED = 6,     /* the two streams cross, or a byte outside the frame is wanted */
-  SILBERLAUS_CAUSE_NO_BITS = 7      /* fewer than no bits are left for the residual */
+  SILBERLAUS_CAUSE_NO_BITS = 7,     /* fewer than no bits are left for the residual */
+  SILBERLAUS_CAUSE_TNS_ORDER = 8    /* a TNS order above 4 at 2.5 or 5 ms; at 7.5 and 10 ms it cannot arise */
 };
 
 /* ---- settings and sizes */
@@ -65,7 +67,7 @@ enum {
 #define SILBERLAUS_BITS_UNKNOWN 65535 /* an entry's bits where nobody knows them, as in all of form 1 */
 #define SILBERLAUS_FRAME_MIN 20      /* bytes of a frame to read or to keep */
 #define SILBERLAUS_FRAME_MAX 400
-#define SILBERLAUS_LINES_MAX 400     /* lines of a frame at 48 kHz; see silberlaus_line_count */
+#define SILBERLAUS_LINES_MAX 400     /* lines of a frame of 10 ms at 48 kHz; see silberlaus_line_count */
 #define SILBERLAUS_SYMBOLS_MAX 2818  /* arithmetic symbols of a frame: 18 + 7 x 400 */
 #define SILBERLAUS_RECORD_MIN_1 4    /* bytes of a record with no entries, of form 1 and of form 2 */
 #define SILBERLAUS_RECORD_MIN_2 5
@@ -141,17 +143,19 @@ uint8_t silberlaus_protect(size_t slot_size, uint32_t mode, uint32_t request,
 silberlaus_unprotected silberlaus_unprotect(size_t slot_size, uint32_t mode,
                                             const uint8_t *slot, size_t slot_len, uint8_t *frame, size_t frame_len);
 
-/* ---- frames: 20 to 400 bytes, of 10 ms, at 8, 16, 24, 32 or 48 kHz */
+/* ---- frames: 20 to 400 bytes; 8, 16, 24, 32 or 48 kHz; 2.5, 5, 7.5 or 10 ms, in quarter milliseconds 10, 20, 30 or 40 */
 
-/* The lines of a frame at this rate (80, 160, 240, 320, 400); 0 where the rate is out of range. */
-size_t silberlaus_line_count(uint32_t khz);
+/* The lines of a frame of this rate and duration: 80, 160, 240, 320 or 400 at 10 ms, and a quarter, a half and three
+   quarters of them at 2.5, 5 and 7.5 ms; 0 where the rate or the duration is out of range. */
+size_t silberlaus_line_count(uint32_t khz, uint32_t quarter_ms);
 
 /* Reads a frame into its fields, its spectrum and its residual bits (clause 5.4).
-   `frame` is only read. `spectrum` and `residual` have exactly silberlaus_line_count(khz) entries each; accepted, all of
-   them are written: the spectrum's lines, -32,767 to 32,767, then 0; the residual bits, each 0 or 1, then 0.
-   Refusals: SILBERLAUS_BAD_SETTING the rate or the frame's length; SILBERLAUS_BAD_LENGTH `spectrum` or `residual`;
-   SILBERLAUS_BIT_ERROR with its cause. */
-silberlaus_frame silberlaus_read_frame(uint32_t khz, const uint8_t *frame, size_t frame_len,
+   `frame` is only read. `spectrum` and `residual` have exactly silberlaus_line_count(khz, quarter_ms) entries each;
+   accepted, all of them are written: the spectrum's lines, -32,767 to 32,767, then 0; the residual bits, each 0 or 1,
+   then 0.
+   Refusals: SILBERLAUS_BAD_SETTING the rate, the duration or the frame's length; SILBERLAUS_BAD_LENGTH `spectrum` or
+   `residual`; SILBERLAUS_BIT_ERROR with its cause. */
+silberlaus_frame silberlaus_read_frame(uint32_t khz, uint32_t quarter_ms, const uint8_t *frame, size_t frame_len,
                                        int32_t *spectrum, size_t spectrum_len, uint8_t *residual, size_t residual_len);
 
 /* ---- the session record: entries of a frame, its request, its count and its bits, the oldest at place 0; at most 65,536
@@ -200,9 +204,10 @@ silberlaus_added silberlaus_record_to_form_2(const uint8_t *record, size_t used,
 silberlaus_added silberlaus_record_to_form_1(const uint8_t *record, size_t used, uint8_t *out, size_t capacity);
 
 /* Reads the frame of the entry at a place, where it stands: nothing is copied. Else as silberlaus_read_frame.
-   Refusals: SILBERLAUS_BAD_SETTING the form or the rate; SILBERLAUS_BAD_LENGTH `spectrum` or `residual`;
+   Refusals: SILBERLAUS_BAD_SETTING the form, the rate or the duration; SILBERLAUS_BAD_LENGTH `spectrum` or `residual`;
    SILBERLAUS_NOT_A_RECORD; SILBERLAUS_BAD_SETTING the place; SILBERLAUS_BIT_ERROR with its cause. */
-silberlaus_frame silberlaus_read_entry(uint32_t form, const uint8_t *record, size_t used, size_t place, uint32_t khz,
+silberlaus_frame silberlaus_read_entry(uint32_t form, const uint8_t *record, size_t used, size_t place,
+                                       uint32_t khz, uint32_t quarter_ms,
                                        int32_t *spectrum, size_t spectrum_len, uint8_t *residual, size_t residual_len);
 
 #ifdef __cplusplus

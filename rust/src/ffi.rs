@@ -83,9 +83,10 @@ unsafe extern "C" {
         frame: *mut u8,
         frame_len: usize,
     ) -> Unprotected;
-    pub safe fn silberlaus_line_count(khz: u32) -> usize;
+    pub safe fn silberlaus_line_count(khz: u32, quarter_ms: u32) -> usize;
     fn silberlaus_read_frame(
         khz: u32,
+        quarter_ms: u32,
         frame: *const u8,
         frame_len: usize,
         spectrum: *mut i32,
@@ -115,6 +116,7 @@ unsafe extern "C" {
         used: usize,
         place: usize,
         khz: u32,
+        quarter_ms: u32,
         spectrum: *mut i32,
         spectrum_len: usize,
         residual: *mut u8,
@@ -132,11 +134,11 @@ pub fn unprotect(slot_size: usize, mode: u32, slot: &[u8], frame: &mut [u8]) -> 
     unsafe { silberlaus_unprotect(slot_size, mode, slot.as_ptr(), slot.len(), frame.as_mut_ptr(), frame.len()) }
 }
 
-pub fn read_frame(khz: u32, frame: &[u8], spectrum: &mut [i32], residual: &mut [u8]) -> Frame {
+pub fn read_frame(khz: u32, quarter_ms: u32, frame: &[u8], spectrum: &mut [i32], residual: &mut [u8]) -> Frame {
     let (lines, bits) = (spectrum.len(), residual.len());
     let (at, to, rest) = (frame.as_ptr(), spectrum.as_mut_ptr(), residual.as_mut_ptr());
     // SAFETY: frame is good for reading, the others for writing, each for its length; exclusive slices overlap no other.
-    unsafe { silberlaus_read_frame(khz, at, frame.len(), to, lines, rest, bits) }
+    unsafe { silberlaus_read_frame(khz, quarter_ms, at, frame.len(), to, lines, rest, bits) }
 }
 
 pub fn record_new(form: u32, buffer: &mut [u8]) -> u8 {
@@ -177,11 +179,12 @@ pub fn read_entry(
     record: &[u8],
     place: usize,
     khz: u32,
+    quarter_ms: u32,
     spectrum: &mut [i32],
     residual: &mut [u8],
 ) -> Frame {
     let (lines, bits) = (spectrum.len(), residual.len());
     let (at, to, rest) = (record.as_ptr(), spectrum.as_mut_ptr(), residual.as_mut_ptr());
     // SAFETY: record is good for reading, the others for writing, each for its length; exclusive slices overlap no other.
-    unsafe { silberlaus_read_entry(form, at, record.len(), place, khz, to, lines, rest, bits) }
+    unsafe { silberlaus_read_entry(form, at, record.len(), place, khz, quarter_ms, to, lines, rest, bits) }
 }

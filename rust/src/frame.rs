@@ -1,4 +1,5 @@
-//! Reading a frame (clause 5.4): 20 to 400 bytes, 10 ms, at 8, 16, 24, 32 or 48 kHz.
+//! Reading a frame (clause 5.4): 20 to 400 bytes at 8, 16, 24, 32 or 48 kHz, of 2.5, 5, 7.5 or 10 ms. The duration is in
+//! quarter milliseconds: 10, 20, 30 or 40.
 
 use crate::Refusal;
 use crate::ffi;
@@ -15,7 +16,7 @@ pub struct Frame {
     pub lsb_mode: bool,
     /// The global gain's index.
     pub gain: u8,
-    /// The two temporal noise shaping filters.
+    /// The two temporal noise shaping filters; at 2.5 ms the second is never sent.
     pub tns: [Tns; 2],
     /// The spectral shape.
     pub shape: Shape,
@@ -35,7 +36,7 @@ pub struct Frame {
 pub struct Tns {
     /// Whether the filter was sent.
     pub flag: bool,
-    /// Its order, 0 to 8.
+    /// Its order, 0 to 8; at 2.5 and 5 ms 0 to 4.
     pub order: u8,
     /// Its coefficients' indices; 0 from the order on.
     pub coefficients: [u8; 8],
@@ -69,14 +70,17 @@ pub struct Pitch {
     pub index: u16,
 }
 
-/// The lines of a frame at this rate: 80, 160, 240, 320 or 400; `None` where the rate is out of range.
+/// The lines of a frame of this rate and duration, the latter in quarter milliseconds: 80, 160, 240, 320 or 400 at 10 ms, and a
+/// quarter, a half and three quarters of them at 2.5, 5 and 7.5 ms; `None` where the rate or the duration is out of range.
 ///
 /// ```
-/// assert_eq!(silberlaus::line_count(16), Some(160));
-/// assert_eq!(silberlaus::line_count(44), None);
+/// assert_eq!(silberlaus::line_count(16, 40), Some(160));
+/// assert_eq!(silberlaus::line_count(16, 10), Some(40));
+/// assert_eq!(silberlaus::line_count(44, 40), None);
+/// assert_eq!(silberlaus::line_count(16, 5), None);
 /// ```
-pub fn line_count(khz: u32) -> Option<usize> {
-    match ffi::silberlaus_line_count(khz) {
+pub fn line_count(khz: u32, quarter_ms: u32) -> Option<usize> {
+    match ffi::silberlaus_line_count(khz, quarter_ms) {
         0 => None,
         lines => Some(lines),
     }
@@ -84,12 +88,13 @@ pub fn line_count(khz: u32) -> Option<usize> {
 
 /// Reads a frame into its fields, its spectrum and its residual bits.
 ///
-/// `spectrum` and `residual` have exactly [`line_count`]`(khz)` entries each, and accepted, all of them are written: the
-/// spectrum's lines, -32,767 to 32,767, then 0; the residual bits, each 0 or 1, then 0.
+/// The duration is in quarter milliseconds. `spectrum` and `residual` have exactly [`line_count`]`(khz, quarter_ms)` entries
+/// each, and accepted, all of them are written: the spectrum's lines, -32,767 to 32,767, then 0; the residual bits, each 0 or 1,
+/// then 0.
 ///
 /// # Errors
 ///
-/// [`Refusal::BadSetting`] the rate or the frame's length; [`Refusal::BadLength`] `spectrum` or `residual`;
+/// [`Refusal::BadSetting`] the rate, the duration or the frame's length; [`Refusal::BadLength`] `spectrum` or `residual`;
 /// [`Refusal::BitError`] with its cause.
 ///
 /// ```
@@ -99,18 +104,25 @@ pub fn line_count(khz: u32) -> Option<usize> {
 ///     0x4d, 0xff, 0xa1, 0x42, 0x80, 0xc8, 0x56, 0x83, 0xfa, 0xbb, 0x51, 0x38, 0x5e, 0x56, 0xd0, 0x40, 0x4e, 0xb2, 0x8c, 0x51,
 /// ];
 /// let (mut spectrum, mut residual) = ([0; 320], [0; 320]);
-/// let fields = read_frame(32, &frame, &mut spectrum, &mut residual)?;
+/// let fields = read_frame(32, 40, &frame, &mut spectrum, &mut residual)?;
 /// assert_eq!((fields.bandwidth, fields.last_line, fields.gain, fields.symbols), (1, 42, 81, 23));
 /// assert_eq!(fields.pitch.map(|pitch| pitch.index), Some(389));
 /// assert_eq!(spectrum[..8], [-2, 3, 2, 3, 0, -6, 4, 0]);
 ///
 /// frame[18] |= 3; // the two highest bits of the last pair
-/// let refusal = read_frame(32, &frame, &mut spectrum, &mut residual).unwrap_err();
+/// let refusal = read_frame(32, 40, &frame, &mut spectrum, &mut residual).unwrap_err();
 /// assert_eq!(refusal, Refusal::BitError(Cause::LastLine));
+/// assert_eq!(read_frame(32, 20, &frame, &mut spectrum, &mut residual), Err(Refusal::BadLength));
 /// # Ok::<(), Refusal>(())
 /// ```
-pub fn read_frame(khz: u32, frame: &[u8], spectrum: &mut [i32], residual: &mut [u8]) -> Result<Frame, Refusal> {
-    Frame::of(ffi::read_frame(khz, frame, spectrum, residual))
+pub fn read_frame(
+    khz: u32,
+    quarter_ms: u32,
+    frame: &[u8],
+    spectrum: &mut [i32],
+    residual: &mut [u8],
+) -> Result<Frame, Refusal> {
+    Frame::of(ffi::read_frame(khz, quarter_ms, frame, spectrum, residual))
 }
 
 impl Frame {

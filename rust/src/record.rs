@@ -264,8 +264,8 @@ pub fn to_form_1(record: &[u8], out: &mut [u8]) -> Result<usize, Refusal> {
 ///
 /// # Errors
 ///
-/// [`Refusal::BadSetting`] the form or the rate; [`Refusal::BadLength`] `spectrum` or `residual`; [`Refusal::NotARecord`];
-/// [`Refusal::BadSetting`] the place; [`Refusal::BitError`] with its cause.
+/// [`Refusal::BadSetting`] the form, the rate or the duration; [`Refusal::BadLength`] `spectrum` or `residual`;
+/// [`Refusal::NotARecord`]; [`Refusal::BadSetting`] the place; [`Refusal::BitError`] with its cause.
 ///
 /// ```
 /// use silberlaus::record;
@@ -278,7 +278,7 @@ pub fn to_form_1(record: &[u8], out: &mut [u8]) -> Result<usize, Refusal> {
 /// let used = record::add(&mut night, used, &frame, 0, 0, Some(0))?;
 ///
 /// let (mut spectrum, mut residual) = ([0; 320], [0; 320]);
-/// assert_eq!(record::read(2, &night[..used], 0, 32, &mut spectrum, &mut residual)?.last_line, 42);
+/// assert_eq!(record::read(2, &night[..used], 0, 32, 40, &mut spectrum, &mut residual)?.last_line, 42);
 /// # Ok::<(), silberlaus::Refusal>(())
 /// ```
 pub fn read(
@@ -286,8 +286,9 @@ pub fn read(
     record: &[u8],
     place: usize,
     khz: u32,
+    quarter_ms: u32,
     spectrum: &mut [i32],
     residual: &mut [u8],
 ) -> Result<Frame, Refusal> {
-    Frame::of(ffi::read_entry(form, record, place, khz, spectrum, residual))
+    Frame::of(ffi::read_entry(form, record, place, khz, quarter_ms, spectrum, residual))
 }

@@ -38,7 +38,7 @@ pub enum Refusal {
 /// use silberlaus::{Cause, Refusal};
 ///
 /// assert_eq!(Cause::LastLine as u8, 2);
-/// assert_eq!(Refusal::BitError(Cause::LastLine).to_string(), "5: bit error, cause 2: the last line is above the rate's");
+/// assert_eq!(Refusal::BitError(Cause::LastLine).to_string(), "5: bit error, cause 2: the last line is above the number of lines");
 /// ```
 #[derive(Clone, Copy, Debug, PartialEq, Eq, Hash)]
 #[repr(u8)]
@@ -46,7 +46,7 @@ pub enum Refusal {
 pub enum Cause {
     /// The bandwidth is above the rate's.
     Bandwidth = 1,
-    /// The last line is above the rate's number of lines.
+    /// The last line is above the number of lines of the rate and the duration.
     LastLine = 2,
     /// The shape's joint index is too large.
     JointIndex = 3,
@@ -58,6 +58,8 @@ pub enum Cause {
     Crossed = 6,
     /// Fewer than no bits are left for the residual.
     NoBits = 7,
+    /// A TNS order is above 4 at 2.5 or 5 ms; at 7.5 and 10 ms it cannot arise.
+    TnsOrder = 8,
 }
 
 impl Refusal {
@@ -104,7 +106,8 @@ impl Cause {
             5 => Cause::Escapes,
             6 => Cause::Crossed,
             7 => Cause::NoBits,
-            _ => unreachable!("a cause from 1 to 7"),
+            8 => Cause::TnsOrder,
+            _ => unreachable!("a cause from 1 to 8"),
         }
     }
 }
@@ -127,12 +130,13 @@ impl fmt::Display for Cause {
     fn fmt(&self, f: &mut fmt::Formatter<'_>) -> fmt::Result {
         f.write_str(match self {
             Cause::Bandwidth => "the bandwidth is above the rate's",
-            Cause::LastLine => "the last line is above the rate's",
+            Cause::LastLine => "the last line is above the number of lines",
             Cause::JointIndex => "the joint index is too large",
             Cause::Arithmetic => "the arithmetic value is outside its range",
             Cause::Escapes => "fourteen escapes in a pair",
             Cause::Crossed => "the two streams cross, or a byte outside the frame is wanted",
             Cause::NoBits => "fewer than no bits are left for the residual",
+            Cause::TnsOrder => "a TNS order is above 4",
         })
     }
 }

@@ -251,7 +251,7 @@ fn sizes_are_those_of_full_records() {
     assert!(full.len() + 24 > record::MAX);
 }
 
-/// A frame of 48 kHz with cause 1.
+/// A frame of 48 kHz with cause 1, at every duration.
 const NO_FRAME: [u8; 20] = [
     0x9e, 0x4f, 0xd3, 0x2d, 0xaa, 0xf8, 0x50, 0x3b, 0x82, 0xc4, 0x0d, 0x61, 0xd5, 0xd2, 0x05, 0x16, 0x86, 0xcd, 0xb3,
     0xb5,
@@ -265,26 +265,41 @@ fn refused(lines: usize, bits: usize, read: impl Fn(&mut [i32], &mut [u8]) -> Re
     refusal
 }
 
+const DURATIONS: [u32; 4] = [10, 20, 30, 40];
+
+/// Durations that are none, 1.25 ms among them; some are in range once they are narrowed.
+const NO_DURATIONS: [u32; 9] = [0, 5, 9, 25, 50, 256 + 10, 256 + 40, 65536 + 20, u32::MAX];
+
 #[test]
 fn line_counts() {
     for (khz, lines) in [(8, 80), (16, 160), (24, 240), (32, 320), (48, 400)] {
-        assert_eq!(line_count(khz), Some(lines));
+        assert_eq!(DURATIONS.map(|q| line_count(khz, q)), [lines / 4, lines / 2, lines * 3 / 4, lines].map(Some));
+        assert_eq!(NO_DURATIONS.map(|q| line_count(khz, q)), [None; 9]);
     }
     for khz in [0, 44, 96, 256 + 8, u32::MAX] {
-        assert_eq!(line_count(khz), None);
+        assert_eq!(DURATIONS.map(|q| line_count(khz, q)), [None; 4]);
     }
 }
 
 #[test]
 fn read_frame_refuses_1_then_2_then_5() {
-    for (khz, length) in [(44, 20), (304, 20), (48, 0), (48, 19), (48, 401)] {
-        assert_eq!(refused(400, 399, |s, r| read_frame(khz, &vec![0xb5; length], s, r)), Refusal::BadSetting);
+    for quarter_ms in NO_DURATIONS {
+        for lines in [0, 100, 400] {
+            assert_eq!(refused(lines, 400, |s, r| read_frame(48, quarter_ms, &NO_FRAME, s, r)), Refusal::BadSetting);
+        }
     }
-    for (lines, bits) in [(399, 400), (401, 400), (400, 399), (400, 401), (0, 0)] {
-        assert_eq!(refused(lines, bits, |s, r| read_frame(48, &NO_FRAME, s, r)), Refusal::BadLength);
+    for quarter_ms in DURATIONS {
+        for (khz, length) in [(44, 20), (304, 20), (48, 0), (48, 19), (48, 401)] {
+            let frame = vec![0xb5; length];
+            assert_eq!(refused(400, 399, |s, r| read_frame(khz, quarter_ms, &frame, s, r)), Refusal::BadSetting);
+        }
+        let all = line_count(48, quarter_ms).unwrap();
+        for (lines, bits) in [(all - 1, all), (all + 1, all), (all, all - 1), (all, all + 1), (0, 0), (320, 320)] {
+            assert_eq!(refused(lines, bits, |s, r| read_frame(48, quarter_ms, &NO_FRAME, s, r)), Refusal::BadLength);
+        }
+        let bit_error = Refusal::BitError(Cause::Bandwidth);
+        assert_eq!(refused(all, all, |s, r| read_frame(48, quarter_ms, &NO_FRAME, s, r)), bit_error);
     }
-    let bit_error = Refusal::BitError(Cause::Bandwidth);
-    assert_eq!(refused(400, 400, |s, r| read_frame(48, &NO_FRAME, s, r)), bit_error);
 }
 
 #[test]
@@ -296,17 +311,25 @@ fn read_entry_refuses_1_then_2_then_7_then_1_then_5() {
     for (form, whole) in [(1, &moved[..used_1]), (2, &buffer[..used])] {
         let cut = &whole[..whole.len() - 1];
         for no_form in NO_FORMS {
-            assert_eq!(refused(400, 399, |s, r| record::read(no_form, cut, 1, 44, s, r)), Refusal::BadSetting);
-            assert_eq!(refused(400, 399, |s, r| record::read(no_form, whole, 0, 48, s, r)), Refusal::BadSetting);
+            assert_eq!(refused(400, 399, |s, r| record::read(no_form, cut, 1, 44, 40, s, r)), Refusal::BadSetting);
+            assert_eq!(refused(400, 399, |s, r| record::read(no_form, whole, 0, 48, 40, s, r)), Refusal::BadSetting);
         }
-        assert_eq!(refused(400, 399, |s, r| record::read(form, cut, 1, 44, s, r)), Refusal::BadSetting);
-        assert_eq!(refused(400, 399, |s, r| record::read(form, cut, 1, 48, s, r)), Refusal::BadLength);
-        assert_eq!(refused(400, 400, |s, r| record::read(form, cut, 1, 48, s, r)), Refusal::NotARecord);
-        assert_eq!(refused(400, 400, |s, r| record::read(3 - form, whole, 0, 48, s, r)), Refusal::NotARecord);
-        assert_eq!(refused(400, 400, |s, r| record::read(form, whole, 1, 48, s, r)), Refusal::BadSetting);
-        assert_eq!(
-            refused(400, 400, |s, r| record::read(form, whole, 0, 48, s, r)),
-            Refusal::BitError(Cause::Bandwidth)
-        );
+        for q in NO_DURATIONS {
+            assert_eq!(refused(400, 399, |s, r| record::read(form, cut, 1, 48, q, s, r)), Refusal::BadSetting);
+            assert_eq!(refused(400, 400, |s, r| record::read(form, whole, 0, 48, q, s, r)), Refusal::BadSetting);
+        }
+        assert_eq!(refused(400, 399, |s, r| record::read(form, cut, 1, 44, 40, s, r)), Refusal::BadSetting);
+        assert_eq!(refused(400, 399, |s, r| record::read(form, cut, 1, 48, 40, s, r)), Refusal::BadLength);
+        assert_eq!(refused(400, 400, |s, r| record::read(form, cut, 1, 48, 20, s, r)), Refusal::BadLength);
+        assert_eq!(refused(400, 400, |s, r| record::read(form, cut, 1, 48, 40, s, r)), Refusal::NotARecord);
+        assert_eq!(refused(400, 400, |s, r| record::read(3 - form, whole, 0, 48, 40, s, r)), Refusal::NotARecord);
+        assert_eq!(refused(400, 400, |s, r| record::read(form, whole, 1, 48, 40, s, r)), Refusal::BadSetting);
+        for quarter_ms in DURATIONS {
+            let all = line_count(48, quarter_ms).unwrap();
+            assert_eq!(
+                refused(all, all, |s, r| record::read(form, whole, 0, 48, quarter_ms, s, r)),
+                Refusal::BitError(Cause::Bandwidth)
+            );
+        }
     }
 }

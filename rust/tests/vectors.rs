@@ -1,4 +1,4 @@
-//! Every line of the five lists (README.md in tests/slot, tests/frame and tests/record of the repository) through the safe
+//! Every line of the six lists (README.md in tests/slot, tests/frame and tests/record of the repository) through the safe
 //! functions.
 
 use std::fs;
@@ -117,42 +117,50 @@ fn listed(frame: &Frame) -> Vec<String> {
     fields
 }
 
-#[test]
-fn frames_list() {
-    let lines = list("frame/frames.txt");
-    for line in &lines {
-        let (khz, frame) = (line[0].parse().unwrap(), bytes(&line[1]));
-        let count = line_count(khz).unwrap_or(400);
-        let (mut spectrum, mut residual) = (vec![-7; count], vec![0xa5; count]);
-        match read_frame(khz, &frame, &mut spectrum, &mut residual) {
-            Ok(fields) => {
-                assert_eq!(line[2..4], ["0", "0"]);
-                assert_eq!(listed(&fields), line[4..26]);
-                let bits = line[26].bytes().filter(|&bit| bit != b'-').map(|bit| bit - b'0');
-                assert_eq!(residual, bits.chain(std::iter::repeat(0)).take(count).collect::<Vec<_>>());
-                assert_eq!(spectrum, numbers::<400>(&line[27])[..count]);
-            }
-            Err(refusal) => {
-                let cause = if let Refusal::BitError(cause) = refusal { cause as u8 } else { 0 };
-                assert_eq!(line[2..], [refusal.number().to_string(), cause.to_string()]);
-                assert!(spectrum.iter().all(|&line| line == -7) && residual.iter().all(|&bit| bit == 0xa5));
-            }
+/// A frame of that rate and duration; `line` is the rest of its line, from the frame on.
+fn frame_line(khz: u32, quarter_ms: u32, line: &[String]) {
+    let frame = bytes(&line[0]);
+    let count = line_count(khz, quarter_ms).unwrap_or(400);
+    let (mut spectrum, mut residual) = (vec![-7; count], vec![0xa5; count]);
+    match read_frame(khz, quarter_ms, &frame, &mut spectrum, &mut residual) {
+        Ok(fields) => {
+            assert_eq!(line[1..3], ["0", "0"]);
+            assert_eq!(listed(&fields), line[3..25]);
+            let bits = line[25].bytes().filter(|&bit| bit != b'-').map(|bit| bit - b'0');
+            assert_eq!(residual, bits.chain(std::iter::repeat(0)).take(count).collect::<Vec<_>>());
+            assert_eq!(spectrum, numbers::<400>(&line[26])[..count]);
         }
-        reads_as_entry(khz, &frame, &spectrum, &residual);
+        Err(refusal) => {
+            let cause = if let Refusal::BitError(cause) = refusal { cause as u8 } else { 0 };
+            assert_eq!(line[1..], [refusal.number().to_string(), cause.to_string()]);
+            assert!(spectrum.iter().all(|&line| line == -7) && residual.iter().all(|&bit| bit == 0xa5));
+        }
     }
-    assert_eq!(lines.len(), 388);
+    reads_as_entry(khz, quarter_ms, &frame, &spectrum, &residual);
+}
+
+#[test]
+fn frames_lists() {
+    let (of_10_ms, of_all) = (list("frame/frames.txt"), list("frame/read_durations.txt"));
+    for line in &of_10_ms {
+        frame_line(number(&line[0]), 40, &line[1..]);
+    }
+    for line in &of_all {
+        frame_line(number(&line[0]), number(&line[1]), &line[2..]);
+    }
+    assert_eq!((of_10_ms.len(), of_all.len()), (388, 468));
 }
 
 /// The frame as an entry of a record reads as the frame alone does, where it can be one, in both forms.
-fn reads_as_entry(khz: u32, frame: &[u8], spectrum: &[i32], residual: &[u8]) {
+fn reads_as_entry(khz: u32, quarter_ms: u32, frame: &[u8], spectrum: &[i32], residual: &[u8]) {
     let (mut buffer, mut moved) = (vec![0; 1024], vec![0; 1024]);
     let used = record::new(2, &mut buffer).unwrap();
     let Ok(used) = record::add(&mut buffer, used, frame, 0, 0, Some(0)) else { return };
     let used_1 = record::to_form_1(&buffer[..used], &mut moved).unwrap();
     for (form, whole) in [(1, &moved[..used_1]), (2, &buffer[..used])] {
         let (mut lines, mut bits) = (vec![-7; spectrum.len()], vec![0xa5; residual.len()]);
-        let alone = read_frame(khz, frame, &mut lines.clone(), &mut bits.clone());
-        assert_eq!(record::read(form, whole, 0, khz, &mut lines, &mut bits), alone);
+        let alone = read_frame(khz, quarter_ms, frame, &mut lines.clone(), &mut bits.clone());
+        assert_eq!(record::read(form, whole, 0, khz, quarter_ms, &mut lines, &mut bits), alone);
         assert_eq!((&lines[..], &bits[..]), (spectrum, residual));
     }
 }

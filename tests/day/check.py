@@ -1,15 +1,17 @@
 #!/usr/bin/env python3
 """Runs the program `day`, which is named on the command line, and fails where it does not say what it should.
 
-The numbers of its report are counted here again, from tests/frame/frames.txt and documents 01 and 02 alone; then it is lent samples that
-are damaged, an input that cannot be read and an output that cannot be written.
+The numbers of its report are counted here again, from the lists of tests/frame and documents 01 and 02 alone; then it is lent samples
+that are damaged, an input that cannot be read and an output that cannot be written.
 """
 import os
-import pathlib
 import subprocess
 import sys
 
-ROOT = pathlib.Path(__file__).resolve().parents[2]
+import accepted
+
+ROOT = accepted.ROOT
+FRAMES = accepted.frames()
 SAMPLE = (ROOT / "crates/day/stdin").read_bytes()
 failed = []
 
@@ -34,14 +36,6 @@ def slot_for(length):
     return next(fitting, None)
 
 
-def frames():
-    """The length, the last line and the number of symbols of each accepted frame of the list."""
-    for line in (ROOT / "tests/frame/frames.txt").read_text().splitlines():
-        fields = line.split()
-        if fields[2] == "0":
-            yield len(fields[1]) // 2, int(fields[5]), int(fields[24])
-
-
 def changed_bits(place, changes):
     """The ones in what is added to a slot's first semi-octets: 1 to 15 in turn and round again, from one further on with each frame."""
     return sum(bin((place + i) % 15 + 1).count("1") for i in range(changes))
@@ -52,7 +46,8 @@ def counted(room):
     refusals 3 and 4 are one sum."""
     sent, ways, entries, used = {2: 0, 3: 0, 4: 0}, [0] * 4, [], 5
     total = dict(left=0, changed=0, bits=0, lines=0, symbols=0, refused=0)
-    for place, (length, last, symbols) in enumerate(frames()):
+    for place, frame in enumerate(FRAMES):
+        length = len(frame.data)
         slot = slot_for(length)
         if slot is None:
             total["left"] += 1
@@ -67,8 +62,8 @@ def counted(room):
             continue
         total["changed"] += changes
         total["bits"] += changed_bits(place, changes)
-        total["lines"] += last
-        total["symbols"] += symbols
+        total["lines"] += frame.last_line
+        total["symbols"] += frame.symbols
         if used + length + 6 > room:
             break
         used += length + 6
@@ -97,8 +92,8 @@ def check_report(text):
     room = by["The record"][0]
     sent, ways, total, entries, used = counted(room)
     accepted = sum(ways[:3])
-    expect("the sample is counted", by["The sample"] == [len(list(frames())), total["left"], sum(sent.values()),
-                                                         len(list(frames())) - total["left"] - sum(sent.values())])
+    expect("the sample is counted", by["The sample"] == [len(FRAMES), total["left"], sum(sent.values()),
+                                                         len(FRAMES) - total["left"] - sum(sent.values())])
     expect("slots by mode", by["Slots sent, by mode"] == [sent[2], sent[3], sent[4]])
     expect("slots by what happens on the way", by["Slots sent, by what happens on the way"] == ways)
     expect("clean, repaired and how much", by["Slots accepted"] == [ways[0], ways[1] + ways[2], total["changed"], total["bits"]])
@@ -122,17 +117,31 @@ def check_damaged(program, name, data, says):
     expect(f"a sample that {name}", got.stdout == b"" and got.stderr == b"day: " + says + b"\n")
 
 
+def check_samples(program):
+    """Each fault alone and, as the first that is named, with those that are tested behind it."""
+    short, rate = b"the sample is cut short", b"the sample has a rate that is none of 8, 16, 24, 32 and 48 kHz"
+    duration = b"the sample has a duration that is none of 2.5, 5, 7.5 and 10 ms"
+    size = b"the sample has a frame that is not of 20 to 400 bytes"
+    check_damaged(program, "ends in a frame", SAMPLE[:-1], short)
+    for length in (1, 2, 3):
+        check_damaged(program, f"ends after {length} bytes", b"\x2c\x05\x00"[:length], short)
+    check_damaged(program, "has an unknown rate", b"\x2c" + SAMPLE[1:], rate)
+    check_damaged(program, "has an unknown rate and nothing right behind it", b"\x2c\x05\x00\x13", rate)
+    for quarters in (0, 5):
+        check_damaged(program, f"has a duration of {quarters}", SAMPLE[:1] + bytes([quarters]) + SAMPLE[2:], duration)
+        check_damaged(program, f"has a duration of {quarters} and a short frame", b"\x10" + bytes([quarters]) + b"\x00\x13", duration)
+    for length in (19, 401):
+        data = b"\x10\x28" + length.to_bytes(2, "big")
+        check_damaged(program, f"has a frame of {length} bytes", data + bytes(length), size)
+        check_damaged(program, f"has a frame of {length} bytes and ends in it", data, size)
+    check_damaged(program, "is too long", bytes(65537), b"the sample is longer than 65,536 bytes")
+
+
 def main(program):
     got = run(program, SAMPLE)
     expect("the stored output is what it writes", got.stdout == (ROOT / "crates/day/stdout").read_bytes() and got.stderr == b"")
     check_report(got.stdout.decode())
-    check_damaged(program, "ends in a frame", SAMPLE[:-1], b"the sample is cut short")
-    check_damaged(program, "ends in a length", SAMPLE[:2], b"the sample is cut short")
-    check_damaged(program, "has an unknown rate", b"\x2c" + SAMPLE[1:], b"the sample has a rate that is none of 8, 16, 24, 32 and 48 kHz")
-    for length in (19, 401):
-        data = b"\x10" + length.to_bytes(2, "big") + bytes(length)
-        check_damaged(program, f"has a frame of {length} bytes", data, b"the sample has a frame that is not of 20 to 400 bytes")
-    check_damaged(program, "is too long", bytes(65537), b"the sample is longer than 65,536 bytes")
+    check_samples(program)
     folder = os.open(ROOT, os.O_RDONLY)
     got = subprocess.run([program], stdin=folder, capture_output=True, timeout=60)
     expect("a sample that cannot be read", got.stdout == b"" and got.stderr == b"day: the sample cannot be read\n")

@@ -36,8 +36,8 @@ enum { BITS_EACH = 2 };
 void damage(uint8_t *bytes, size_t size, size_t i, unsigned changes);
 
 /* A frame in hex, and the fields that are right for it; from the first refused one on they are refused. */
-typedef struct { uint32_t khz; const char *hex; silberlaus_frame fields; } sample;
-enum { FIRST_REFUSED = 5, SAMPLES = 12, FRAME_FIELDS = 24 };
+typedef struct { uint32_t khz, quarters; const char *hex; silberlaus_frame fields; } sample;
+enum { FIRST_REFUSED = 8, SAMPLES = 16, FRAME_FIELDS = 24 };
 extern const sample samples[SAMPLES];
 size_t sample_bytes(const sample *s, uint8_t *bytes);
 

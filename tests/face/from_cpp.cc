@@ -22,9 +22,9 @@ int main()
     silberlaus_entry o = silberlaus_record_entry(1, in_form_1.data(), to_1.used, 0);
     std::array<int32_t, SILBERLAUS_LINES_MAX> spectrum{};
     std::array<uint8_t, SILBERLAUS_LINES_MAX> residual{};
-    size_t lines = silberlaus_line_count(48);
-    silberlaus_frame f = silberlaus_read_frame(48, back.data(), back.size(), spectrum.data(), lines, residual.data(), lines);
-    silberlaus_frame g = silberlaus_read_entry(2, record.data(), a.used, 0, 48, spectrum.data(), lines, residual.data(), lines);
+    size_t lines = silberlaus_line_count(48, 40);
+    silberlaus_frame f = silberlaus_read_frame(48, 40, back.data(), back.size(), spectrum.data(), lines, residual.data(), lines);
+    silberlaus_frame g = silberlaus_read_entry(2, record.data(), a.used, 0, 48, 40, spectrum.data(), lines, residual.data(), lines);
     bool right = number == SILBERLAUS_ACCEPTED && u.number == SILBERLAUS_ACCEPTED && u.request == 1 && u.semi_octets == 1
                  && u.bits == 1 && back == frame && made == SILBERLAUS_ACCEPTED
                  && a.number == SILBERLAUS_ACCEPTED && a.used == 354

@@ -28,7 +28,7 @@ registers raw_add(uint8_t *, size_t, size_t, const uint8_t *, size_t, uint32_t, 
                   uint32_t) __asm__("silberlaus_record_add");
 registers raw_to_form_2(const uint8_t *, size_t, uint8_t *, size_t) __asm__("silberlaus_record_to_form_2");
 registers raw_to_form_1(const uint8_t *, size_t, uint8_t *, size_t) __asm__("silberlaus_record_to_form_1");
-void *raw_read_frame(void *, uint32_t, const uint8_t *, size_t, int32_t *, size_t, uint8_t *,
+void *raw_read_frame(void *, uint32_t, uint32_t, const uint8_t *, size_t, int32_t *, size_t, uint8_t *,
                      size_t) __asm__("silberlaus_read_frame");
 
 /* A field of the header: where it is, how wide, and the value that the library gave it. */
@@ -129,9 +129,10 @@ static void frame_of(const sample *s, uint8_t paint)
     static uint8_t residual[SILBERLAUS_LINES_MAX];
     struct { uint8_t before[GUARD]; silberlaus_frame answer; uint8_t after[GUARD]; } room;
     uint8_t bytes[SILBERLAUS_FRAME_MAX];
-    size_t length = sample_bytes(s, bytes), lines = silberlaus_line_count(s->khz);
+    size_t length = sample_bytes(s, bytes), lines = silberlaus_line_count(s->khz, s->quarters);
     memset(&room, paint, sizeof room);
-    EXPECT(raw_read_frame(&room.answer, s->khz, bytes, length, spectrum, lines, residual, lines) == &room.answer);
+    void *given = raw_read_frame(&room.answer, s->khz, s->quarters, bytes, length, spectrum, lines, residual, lines);
+    EXPECT(given == &room.answer);
     for (size_t k = 0; k < GUARD; k++)
         EXPECT(room.before[k] == paint && room.after[k] == paint);
     for (size_t k = 0; k < FRAME_FIELDS; k++) {

@@ -55,26 +55,26 @@ static void unprotect(void)
 static int32_t spectrum[SILBERLAUS_LINES_MAX];
 static uint8_t residual[SILBERLAUS_LINES_MAX];
 
-static void line_count(void) { kept = silberlaus_line_count(mode); }
+/* The frame's rate, duration and lines; `size` is its length. */
+static uint32_t khz, quarters;
+static size_t lines;
 
-/* `mode` is the rate, `size` the frame's length. */
+static void line_count(void) { kept = silberlaus_line_count(khz, quarters); }
+
 static void read_frame(void)
 {
-    size_t lines = silberlaus_line_count(mode);
-    kept = silberlaus_read_frame(mode, frames, size, spectrum, lines, residual, lines).number;
+    kept = silberlaus_read_frame(khz, quarters, frames, size, spectrum, lines, residual, lines).number;
 }
 
 /* The record is of form 2, and moved to form 1 in `moved`. */
 static void read_entry(void)
 {
-    size_t lines = silberlaus_line_count(mode);
-    kept = silberlaus_read_entry(2, record, used, 0, mode, spectrum, lines, residual, lines).number;
+    kept = silberlaus_read_entry(2, record, used, 0, khz, quarters, spectrum, lines, residual, lines).number;
 }
 
 static void read_entry_1(void)
 {
-    size_t lines = silberlaus_line_count(mode);
-    kept = silberlaus_read_entry(1, moved, moved_used, 0, mode, spectrum, lines, residual, lines).number;
+    kept = silberlaus_read_entry(1, moved, moved_used, 0, khz, quarters, spectrum, lines, residual, lines).number;
 }
 
 static void record_new(void) { kept = silberlaus_record_new(2, record, sizeof record); }
@@ -147,7 +147,9 @@ static void frame_stacks(void)
 {
     for (size_t k = 0; k < SAMPLES; k++) {
         size = sample_bytes(&samples[k], frames);
-        mode = samples[k].khz;
+        khz = samples[k].khz;
+        quarters = samples[k].quarters;
+        lines = silberlaus_line_count(khz, quarters);
         record_new();
         used = silberlaus_record_add(record, sizeof record, SILBERLAUS_RECORD_MIN_2, frames, size, 0, 0, 0, (uint32_t)size).used;
         moved_used = silberlaus_record_to_form_1(record, used, moved, sizeof moved).used;

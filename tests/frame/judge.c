@@ -104,14 +104,14 @@ static int print_row(const settings *set, const unsigned long *times, unsigned b
     return all;
 }
 
-int judge_table(const char *title, tally times, const settings *from, unsigned but)
+int judge_table(const char *title, tally times, unsigned but)
 {
     int all = 1;
     said(printf("\n%s\n  ms kHz accepted", title));
     for (unsigned cause = 1; cause < CAUSES; cause++)
         said(printf("  cause %u", cause));
     said(printf("\n"));
-    for (const settings *set = from; set < reference_settings + SETTINGS; set++)
+    for (const settings *set = reference_settings; set < reference_settings + SETTINGS; set++)
         all = print_row(set, times[set - reference_settings], but) && all;
     all_said();
     if (!all)
@@ -119,9 +119,9 @@ int judge_table(const char *title, tally times, const settings *from, unsigned b
     return all;
 }
 
-int judge_causes(const settings *from)
+int judge_causes(void)
 {
-    int all = judge_table("Read:", occurred, from, 0);
+    int all = judge_table("Read:", occurred, 0);
     said(printf("Accepted with late low bits %lu, with TNS filters %lu, with residual bits %lu; largest value %" PRId32
                 ".\n", late_low_bits, filters, with_residual, largest));
     return all;

@@ -23,12 +23,12 @@ void judge_by_reference(const settings *set, const uint8_t *frame, size_t length
 typedef struct { size_t length; uint8_t frame[MOST_BYTES]; } kept_frame;
 const kept_frame *judge_kept(const settings *set, unsigned cause);
 
-/* Counts by setting and cause. The table says them of the settings from that one on. Whether each cause but `but` occurred
-   that can occur there, and no other; where one did not, standard error says so. `but` 0: every cause. */
+/* Counts by setting and cause, and their table. Whether each cause but `but` occurred that can occur at a setting, and no
+   other; where one did not, standard error says so. `but` 0: every cause. */
 typedef unsigned long tally[SETTINGS][CAUSES];
-int judge_table(const char *title, tally times, const settings *from, unsigned but);
+int judge_table(const char *title, tally times, unsigned but);
 
 /* The table of all that has occurred. */
-int judge_causes(const settings *from);
+int judge_causes(void);
 
 #endif

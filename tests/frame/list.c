@@ -1,4 +1,4 @@
-/* Reading a list of cases (see list.h). */
+/* Reading lists of cases (see list.h). */
 #include "list.h"
 
 #include <stdio.h>
@@ -7,13 +7,14 @@
 
 #include "../common/said.h"
 
-const char *list_name;
 listed list[MOST_LISTED];
 size_t list_length;
+static const char *list_name;
+static size_t line_number;
 
 static _Noreturn void malformed(void)
 {
-    said(fprintf(stderr, "WRONG: line %zu of %s is not as README.md says\n", list_length + 1, list_name));
+    said(fprintf(stderr, "WRONG: line %zu of %s is not as README.md says\n", line_number, list_name));
     exit(2);
 }
 
@@ -134,14 +135,15 @@ void list_read(const char *folder, const char *name, uint32_t quarters)
 {
     static char path[4096], line[8192];
     list_name = name;
+    line_number = 1;
     snprintf(path, sizeof path, "%s/%s", folder, name);
     FILE *file = fopen(path, "r");
     if (file == NULL) {
         perror(path);
         exit(2);
     }
-    for (list_length = 0; list_length < MOST_LISTED && fgets(line, sizeof line, file) != NULL; list_length++)
-        line_to(line, quarters, &list[list_length]);
+    for (; list_length < MOST_LISTED && fgets(line, sizeof line, file) != NULL; line_number++)
+        line_to(line, quarters, &list[list_length++]);
     if (ferror(file) || !feof(file))
         malformed();
     fclose(file);

@@ -9,6 +9,8 @@
 #include "plans.h"
 #include "tries.h"
 
+enum { TURNS = 5000, LEAST = 2000 };
+
 static tally known;
 
 /* Makes it in a frame that holds zeros or anything. */
@@ -47,23 +49,23 @@ static void make_and_read(const settings *set, const plan *p)
     judge_by_reference(set, frame, length);
 }
 
-void made_in_range(const settings *from, unsigned turns)
+void made_in_range(void)
 {
     plan p;
-    for (const settings *set = from; set < reference_settings + SETTINGS; set++)
-        for (unsigned turn = 0; turn < turns; turn++) {
+    for (const settings *set = reference_settings; set < reference_settings + SETTINGS; set++)
+        for (unsigned turn = 0; turn < TURNS; turn++) {
             plan_frame(set, &p);
             make_and_read(set, &p);
         }
     group_ends("every setting: frames made, and damaged");
 }
 
-void made_with_causes(const settings *from, unsigned turns)
+void made_with_causes(void)
 {
     static const unsigned causes[] = {1, 2, 3, 4, 5, 8};
     plan p;
-    for (const settings *set = from; set < reference_settings + SETTINGS; set++)
-        for (unsigned turn = 0; turn < turns; turn++) {
+    for (const settings *set = reference_settings; set < reference_settings + SETTINGS; set++)
+        for (unsigned turn = 0; turn < TURNS; turn++) {
             plan_frame(set, &p);
             plan_cause(set, causes[turn % COUNT(causes)], &p);
             if (below(4) == 0)
@@ -73,11 +75,11 @@ void made_with_causes(const settings *from, unsigned turns)
     group_ends("every setting: frames made with a cause or two, and damaged");
 }
 
-int made_enough(const settings *from, unsigned long least)
+int made_enough(void)
 {
-    int enough = judge_table("Made, the answer known beforehand:", known, from, 6);
-    for (const settings *set = from; set < reference_settings + SETTINGS; set++)
-        enough = enough && known[set - reference_settings][0] >= least;
+    int enough = judge_table("Made, the answer known beforehand:", known, 6);
+    for (const settings *set = reference_settings; set < reference_settings + SETTINGS; set++)
+        enough = enough && known[set - reference_settings][0] >= LEAST;
     if (!enough)
         said(fprintf(stderr, "WRONG: at some setting too few frames were made, or not every cause\n"));
     return enough;

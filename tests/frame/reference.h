@@ -1,6 +1,5 @@
 /* What is right: reading one frame, written from document 01, request 02 section 3 and clause 5.4 alone, step by step. The two
-   calls have the meaning of silberlaus_line_count and silberlaus_read_frame (include/silberlaus.h), for frames of 2.5, 5, 7.5
-   and 10 ms: behind the rate stands the duration in quarter milliseconds, and an order above the highest is cause 8. */
+   calls have the meaning of silberlaus_line_count and silberlaus_read_frame (include/silberlaus.h). */
 #ifndef REFERENCE_H
 #define REFERENCE_H
 

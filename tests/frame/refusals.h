@@ -4,15 +4,16 @@
 
 #include "judge.h"
 
-enum { KHZ_TRIED = 15 };
+enum { KHZ_TRIED = 15, QUARTERS_TRIED = 22 };
 
 /* In range and out; some are in range once they are narrowed to 8 or 16 bits. */
-extern const uint32_t refusals_khz[KHZ_TRIED];
+extern const uint32_t refusals_khz[KHZ_TRIED], refusals_quarters[QUARTERS_TRIED];
 
-/* All rates with all lengths and buffers at these durations; the settings and lengths of the list with all buffers; and every
-   length from 0 to 1,024 bytes, a frame of random bytes each, at the settings from that one on. */
-void refusals_tried(const uint32_t *quarters, size_t count);
+/* All of these with all lengths and buffers; the settings and lengths of the lists with all buffers; every length from 0 to
+   1,024 bytes, a frame of random bytes each, at every setting; and buffers as long as those of another setting. */
+void refusals_tried(void);
 void refusals_listed(void);
-void refusals_of_lengths(const settings *from);
+void refusals_of_lengths(void);
+void refusals_of_other_settings(void);
 
 #endif

@@ -1,8 +1,8 @@
 /* Encodes synthesized speech with liblc3, another maker's encoder of the same bitstream, and reads every frame: each has
    to be accepted, and to be what the reference reads. Built and run by the script `lc3`, where liblc3 is installed.
 
-     speech          every rate and every length from 20 to 400 bytes
-     speech list     writes the frames of bench_frames.txt: rate in kHz, frame */
+     speech          every rate and every length from 20 to 400 bytes, of 7.5 and of 10 ms: liblc3 has no shorter ones
+     speech list     writes the frames of bench_frames.txt, which are of 10 ms: rate in kHz, frame */
 #include <inttypes.h>
 #include <lc3.h>
 #include <math.h>
@@ -11,10 +11,9 @@
 #include <string.h>
 
 #include "../common/said.h"
-#include "archive.h"
 #include "lend.h"
 
-enum { FRAME_US = 10000, MOST_SAMPLES = 480, FRAMES = 24, LISTED = 16, SHOWN = 5 };
+enum { MOST_SAMPLES = 480, FRAMES = 24, LISTED = 16, SHOWN = 5, AT_7_5_MS = AT_TEN_MS - RATES };
 
 /* ---- speech: tenths of a second that are voiced with a wandering pitch, hiss, silent, both at once, or loud */
 typedef struct { double seconds, phase; uint32_t noise; } voice;
@@ -52,22 +51,24 @@ static float next_sample(voice *v, double hz)
 }
 
 /* ---- its frames */
-typedef struct { voice v; int hz; lc3_encoder_t encoder; lc3_encoder_mem_48k_t memory; } speaker;
+typedef struct { voice v; int hz, us; lc3_encoder_t encoder; lc3_encoder_mem_48k_t memory; } speaker;
 
-static void begin(speaker *s, uint32_t khz, size_t length)
+static void begin(speaker *s, const settings *set, size_t length)
 {
     s->v = (voice){.seconds = (double)(length * 7 % 80) / 100, .noise = (uint32_t)length};
-    s->hz = (int)khz * 1000;
-    s->encoder = lc3_setup_encoder(FRAME_US, s->hz, 0, &s->memory);
+    s->hz = (int)set->khz * 1000;
+    s->us = (int)set->quarters * 250;
+    s->encoder = lc3_setup_encoder(s->us, s->hz, 0, &s->memory);
 }
 
 static void say(speaker *s, uint8_t *frame, size_t length)
 {
     float samples[MOST_SAMPLES];
-    for (int k = 0; k < s->hz / 100; k++)
+    int count = lc3_frame_samples(s->us, s->hz);
+    for (int k = 0; k < count; k++)
         samples[k] = next_sample(&s->v, s->hz);
     if (s->encoder == NULL || lc3_encode(s->encoder, LC3_PCM_FORMAT_FLOAT, samples, 1, (int)length, frame) != 0) {
-        said(printf("WRONG: liblc3 does not encode %d Hz in %zu bytes\n", s->hz, length));
+        said(printf("WRONG: liblc3 does not encode %d us at %d Hz in %zu bytes\n", s->us, s->hz, length));
         exit(2);
     }
 }
@@ -84,23 +85,23 @@ static void judge(const char *difference, const request *r, const silberlaus_fra
     with_residual += want->residual_bits > 0;
     if (difference == NULL || wrong++ >= SHOWN)
         return;
-    said(printf("  WRONG %s: %" PRIu32 " kHz, %zu bytes; the reference answers %u, cause %u; frame ", difference, r->khz,
-                r->length, want->number, want->cause));
+    said(printf("  WRONG %s: %" PRIu32 " kHz, %" PRIu32 "/4 ms, %zu bytes; the reference answers %u, cause %u; frame ", difference,
+                r->khz, r->quarters, r->length, want->number, want->cause));
     for (size_t k = 0; k < r->length; k++)
         said(printf("%02x", r->frame[k]));
     said(printf("\n"));
 }
 
-static void speak(uint32_t khz, size_t length)
+static void speak(const settings *set, size_t length)
 {
     speaker s;
-    begin(&s, khz, length);
+    begin(&s, set, length);
     for (unsigned n = 0; n < FRAMES; n++) {
         uint8_t frame[MOST_BYTES];
         answer want;
         silberlaus_frame got;
         say(&s, frame, length);
-        request r = lend_right(khz, TEN_MS, frame, length);
+        request r = lend_right(set->khz, set->quarters, frame, length);
         lend_reference(&r, &want);
         const char *difference = lend_and_compare(&r, &want, &got);
         judge(want.fields.number != 0 ? "refusal" : difference, &r, &want.fields);
@@ -109,29 +110,29 @@ static void speak(uint32_t khz, size_t length)
 
 static int every_frame(void)
 {
-    lend_prepare(archive_read_frame);
-    for (unsigned i = AT_TEN_MS; i < SETTINGS; i++) {
+    lend_prepare(silberlaus_read_frame);
+    for (const settings *set = &reference_settings[AT_7_5_MS]; set < reference_settings + SETTINGS; set++) {
         frames = filters = pitches = late_low_bits = with_residual = 0;
         for (size_t length = LEAST_BYTES; length <= MOST_BYTES; length++)
-            speak(reference_settings[i].khz, length);
-        said(printf("%2" PRIu32 " kHz: %lu frames of liblc3, %lu with TNS filters, %lu with pitch, %lu in LSB mode 1, %lu with "
-                    "residual bits; %lu wrong so far\n", reference_settings[i].khz, frames, filters, pitches, late_low_bits,
-                    with_residual, wrong));
+            speak(set, length);
+        said(printf("%4.1f ms, %2" PRIu32 " kHz: %lu frames of liblc3, %lu with TNS filters, %lu with pitch, %lu in LSB mode 1, "
+                    "%lu with residual bits; %lu wrong so far\n", set->quarters / 4.0, set->khz, frames, filters, pitches,
+                    late_low_bits, with_residual, wrong));
     }
     return wrong > 0;
 }
 
 /* ---- the list for the benchmark: frames one after the other, from the second tenth on */
-static void list(uint32_t khz, size_t length)
+static void list(const settings *set, size_t length)
 {
     speaker s;
     uint8_t frame[MOST_BYTES];
-    begin(&s, khz, 0);
+    begin(&s, set, 0);
     for (unsigned n = 0; n < 10 + 6 * LISTED; n++) {
         say(&s, frame, length);
         if (n < 10 || n % 6 != 0)
             continue;
-        said(printf("%" PRIu32 " ", khz));
+        said(printf("%" PRIu32 " ", set->khz));
         for (size_t k = 0; k < length; k++)
             said(printf("%02x", frame[k]));
         said(printf("\n"));
@@ -147,7 +148,7 @@ int main(int argc, char **argv)
     else
         for (unsigned i = 0; i < sizeof lengths / sizeof lengths[0]; i++)
             for (unsigned rate = AT_TEN_MS; rate < SETTINGS; rate++)
-                list(reference_settings[rate].khz, lengths[i]);
+                list(&reference_settings[rate], lengths[i]);
     (void)argv;
     all_said();
     return status;

@@ -1,7 +1,6 @@
 /* Frames to try (see tries.h). */
 #include "tries.h"
 
-#include <stdio.h>
 #include <string.h>
 
 #include "../common/cases.h"
@@ -99,24 +98,24 @@ static void edge_of_room(const settings *set, size_t length)
     }
 }
 
-static void everywhere(const settings *from, unsigned turns, one_case *one, const char *name)
+static void everywhere(unsigned turns, one_case *one, const char *name)
 {
-    for (const settings *set = from; set < reference_settings + SETTINGS; set++)
+    for (const settings *set = reference_settings; set < reference_settings + SETTINGS; set++)
         for (size_t length = LEAST_BYTES; length <= MOST_BYTES; length++)
             for (unsigned turn = 0; turn < turns; turn++)
                 one(set, length);
     group_ends(name);
 }
 
-void tries_random(const settings *from, unsigned turns)
+void tries_random(unsigned turns)
 {
-    everywhere(from, turns, any_bytes, "every setting and length: random bytes");
-    everywhere(from, turns, any_symbols, "every setting and length: side information in range, random symbols");
-    everywhere(from, turns, plain_symbols, "every setting and length: the same with runs of one byte");
-    everywhere(from, turns, edge_of_room, "every setting and length: last lines at which the two streams meet");
+    everywhere(turns, any_bytes, "every setting and length: random bytes");
+    everywhere(turns, any_symbols, "every setting and length: side information in range, random symbols");
+    everywhere(turns, plain_symbols, "every setting and length: the same with runs of one byte");
+    everywhere(turns, edge_of_room, "every setting and length: last lines at which the two streams meet");
 }
 
-/* ---- frames of the list, as they are and damaged */
+/* ---- frames of the lists, damaged */
 
 void tries_flip(uint8_t *frame, size_t length, unsigned flips)
 {
@@ -124,22 +123,6 @@ void tries_flip(uint8_t *frame, size_t length, unsigned flips)
         uint32_t bit = below(8 * (uint32_t)length);
         frame[bit / 8] ^= (uint8_t)(1 << bit % 8);
     }
-}
-
-static void listed_group_ends(const char *before, const char *after)
-{
-    char name[256];
-    snprintf(name, sizeof name, "%s%s%s", before, list_name, after);
-    group_ends(name);
-}
-
-void tries_every_line(void)
-{
-    for (size_t i = 0; i < list_length; i++) {
-        request r = lend_right(list[i].khz, list[i].quarters, list[i].frame, list[i].length);
-        judge_answer(&r, &list[i].want);
-    }
-    listed_group_ends("", ": every line");
 }
 
 static void bits_flipped(const listed *c, unsigned turns)
@@ -176,9 +159,9 @@ static void ends_changed(const listed *c, unsigned turns)
 }
 
 /* Bytes cut from the front or from the middle, and the frame at every setting. */
-static void cut_short(const listed *c, const settings *from, unsigned turn)
+static void cut_short(const listed *c, unsigned turn)
 {
-    for (const settings *set = from; set < reference_settings + SETTINGS && c->want.fields.number == 0; set++) {
+    for (const settings *set = reference_settings; set < reference_settings + SETTINGS && c->want.fields.number == 0; set++) {
         uint8_t frame[MOST_BYTES];
         size_t cut = turn == 0 ? 0 : below((uint32_t)c->length - LEAST_BYTES + 1);
         size_t length = c->length - cut, front = below((uint32_t)length + 1);
@@ -188,21 +171,21 @@ static void cut_short(const listed *c, const settings *from, unsigned turn)
     }
 }
 
-void tries_listed(const settings *from, unsigned turns)
+void tries_listed(unsigned turns)
 {
     for (size_t i = 0; i < list_length; i++)
         bits_flipped(&list[i], turns);
-    listed_group_ends("frames of ", " with 1 to 64 bits flipped");
+    group_ends("frames of the lists with 1 to 64 bits flipped");
     for (size_t i = 0; i < list_length; i++)
         each_bit_flipped(&list[i]);
-    listed_group_ends("frames of ", ", each of their bits flipped alone");
+    group_ends("frames of the lists, each of their bits flipped alone");
     for (size_t i = 0; i < list_length; i++)
         ends_changed(&list[i], 6 * turns);
-    listed_group_ends("frames of ", " that want bytes past their end, the last bytes changed");
+    group_ends("frames of the lists that want bytes past their end, the last bytes changed");
     for (size_t i = 0; i < list_length; i++)
         for (unsigned turn = 0; turn < 20; turn++)
-            cut_short(&list[i], from, turn);
-    listed_group_ends("accepted frames of ", " at every setting, whole and with bytes cut out");
+            cut_short(&list[i], turn);
+    group_ends("accepted frames of the lists at every setting, whole and with bytes cut out");
 }
 
 /* ---- near what has occurred */
@@ -219,10 +202,10 @@ static void near_causes(const settings *set)
     }
 }
 
-void tries_near_causes(const settings *from, unsigned turns)
+void tries_near_causes(unsigned turns)
 {
     for (unsigned turn = 0; turn < turns; turn++)
-        for (const settings *set = from; set < reference_settings + SETTINGS; set++)
+        for (const settings *set = reference_settings; set < reference_settings + SETTINGS; set++)
             near_causes(set);
     group_ends("frames of every setting and cause so far, with 1 to 3 bits flipped");
 }

@@ -1,5 +1,5 @@
-/* Frames to try: those of the list (list.h), judged by its answers; and judged by the reference (judge.h) random ones, those
-   whose streams meet, and damaged ones, at the settings from the one that is handed over to the last. */
+/* Frames to try at every setting, judged by the reference (judge.h): random ones, those whose streams meet, and those of the
+   lists (list.h), damaged. */
 #ifndef TRIES_H
 #define TRIES_H
 
@@ -8,17 +8,15 @@
 /* Flips so many bits, the same one perhaps twice. */
 void tries_flip(uint8_t *frame, size_t length, unsigned flips);
 
-void tries_every_line(void);
-
 /* Every setting and length, so many turns each: random bytes; side information in range with random symbols, with runs of
    one byte, and with the last lines at which the two streams meet. */
-void tries_random(const settings *from, unsigned turns);
+void tries_random(unsigned turns);
 
-/* The frames of the list with up to 64 bits flipped, so many turns each; with each of their bits flipped alone; those
+/* The frames of the lists with up to 64 bits flipped, so many turns each; with each of their bits flipped alone; those
    that want bytes past their end, with the last bytes changed; and the accepted ones at every setting, cut short. */
-void tries_listed(const settings *from, unsigned turns);
+void tries_listed(unsigned turns);
 
 /* From what has occurred so far, however seldom, a few bits on: so many turns for each setting and cause. */
-void tries_near_causes(const settings *from, unsigned turns);
+void tries_near_causes(unsigned turns);
 
 #endif

@@ -19,6 +19,7 @@ unsafe extern "C" {
     fn raw_read_frame(
         to: *mut u8,
         khz: u32,
+        quarter_ms: u32,
         f: *const u8,
         n: usize,
         s: *mut i32,
@@ -197,14 +198,14 @@ fn entry() {
     }
 }
 
-/// What the library writes for a frame of 48 kHz: the struct's bytes, and none beside them.
+/// What the library writes for a frame of 48 kHz and 10 ms: the struct's bytes, and none beside them.
 fn frame_bytes(frame: &[u8], paint: u8) -> [u8; 48] {
     let (mut spectrum, mut residual) = ([0; 400], [0; 400]);
     let mut room = [u32::from_ne_bytes([paint; 4]); 20];
     let to = room[4..].as_mut_ptr().cast::<u8>();
     let (lines, bits) = (spectrum.as_mut_ptr(), residual.as_mut_ptr());
     // SAFETY: the slices are good for their lengths, and from `to` on there is aligned room for more than the struct.
-    let given = unsafe { raw_read_frame(to, 48, frame.as_ptr(), frame.len(), lines, 400, bits, 400) };
+    let given = unsafe { raw_read_frame(to, 48, 40, frame.as_ptr(), frame.len(), lines, 400, bits, 400) };
     assert_eq!(given, to);
     let bytes: Vec<u8> = room.iter().flat_map(|word| word.to_ne_bytes()).collect();
     assert!(bytes[..16].iter().chain(&bytes[64..]).all(|&byte| byte == paint));

@@ -1,0 +1,29 @@
+"""The accepted frames of the two lists of tests/frame, in the order of the sample of `day`."""
+import itertools
+import pathlib
+from typing import NamedTuple
+
+ROOT = pathlib.Path(__file__).resolve().parents[2]
+
+
+class Frame(NamedTuple):
+    khz: int
+    quarters: int  # the duration, in quarter milliseconds
+    data: bytes
+    last_line: int
+    symbols: int
+
+
+def listed(name, quarters=None):
+    """The accepted frames of a list: of that duration, or each of the one that its line names."""
+    for line in (ROOT / "tests/frame" / name).read_text().splitlines():
+        khz, *fields = line.split()
+        duration = quarters or int(fields.pop(0))
+        if fields[1] == "0":
+            yield Frame(int(khz), duration, bytes.fromhex(fields[0]), int(fields[4]), int(fields[23]))
+
+
+def frames():
+    """One of frames.txt and one of read_durations.txt in turn, and what is left of the longer list behind."""
+    turns = itertools.zip_longest(listed("frames.txt", 40), listed("read_durations.txt"))
+    return [frame for turn in turns for frame in turn if frame is not None]
