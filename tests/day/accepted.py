@@ -24,6 +24,6 @@ def listed(name, quarters=None):
 
 
 def frames():
-    """One of frames.txt and one of read_durations.txt in turn, and what is left of the longer list behind."""
-    turns = itertools.zip_longest(listed("frames.txt", 40), listed("read_durations.txt"))
-    return [frame for turn in turns for frame in turn if frame is not None]
+    """One of frames.txt and one of read_durations.txt in turn, a hundred of each: more than the day's record has room for."""
+    turns = zip(listed("frames.txt", 40), listed("read_durations.txt"))
+    return [frame for turn in itertools.islice(turns, 100) for frame in turn]

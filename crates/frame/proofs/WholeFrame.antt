@@ -7,7 +7,7 @@ use native.Mathlib.Omega.{arith}
 use lib.ListN.{length}
 use borrow.Author.Tests.{eq-eqb, ne-eqb, le-leb, lt-leb}
 use Rattle.frame_bits.specs.Read.{value, cause}
-use Rattle.frame_settings.specs.Settings.{settingOf, lastCause, lastCauseOf}
+use Rattle.frame_settings.specs.Settings.{settingOf, orderOf, lastCause, lastCauseOf}
 use Rattle.frame_settings.proofs.TenMs.{least-causes}
 use Rattle.frame_side.specs.Side.{sideOf, sideGiven}
 use Rattle.frame_arithmetic.specs.Answers.{arithmeticFrom}
@@ -33,7 +33,7 @@ pub side-refused :
     → (frameOf s r ≡ cause k) × Possible r k
 side-refused s r g k f i a =
     let b : GoodSide r (side.Cause k) = rw i at a in
-    (frame-side s r k (sym (rw i at f)), (b .0, omega (arith, b .1, least-causes (r .order))))
+    (frame-side s r k (sym (rw i at f)), (b .0, omega (arith, b .1, least-causes (orderOf (r .duration)))))
 
 pub frame-rest : (s : List ℕ) (r : Setting) (v : Side) (p : ℕ) → sideOf s r ≡ value v p → frameOf s r ≡ arithmeticFrom s r v p
 unfolding frameOf
@@ -69,6 +69,6 @@ module _ (khz q : ℕ) (s : List ℕ) (x b : ℕ) where
     judged-known l h = rw (e, le-leb 20 (length s) l, le-leb (length s) 400 h)
 
 -- the causes that can arise there
-pub causes-known : (khz q : ℕ) (r : Setting) → settingOf khz q ≡ settled.Known r → lastCauseOf (settingOf khz q) ≡ lastCause (r .order)
+pub causes-known : (khz q : ℕ) (r : Setting) → settingOf khz q ≡ settled.Known r → lastCauseOf (settingOf khz q) ≡ lastCause (orderOf (r .duration))
 unfolding lastCauseOf
 causes-known khz q r e = rw e

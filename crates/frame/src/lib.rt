@@ -3,7 +3,7 @@
 // or 5 with the first cause in reading order; a refusal leaves both buffers as lent. Values lie in -32,767 to 32,767, symbols are at most
 // 18 + 7 x last line.
 ghost use lib.ListN.{length};
-ghost use Rattle.frame_settings.specs.Settings.{Known, Sized, lastCause, lastCauseOf, settingOf};
+ghost use Rattle.frame_settings.specs.Settings.{Known, Sized, orderOf, lastCause, lastCauseOf, settingOf};
 ghost use Rattle.frame.specs.Frame.{judgedOf, judgedSized};
 ghost use Rattle.frame_answers.specs.Answers.{told};
 ghost use Rattle.frame_arithmetic.specs.Answers.{Answers};
@@ -56,7 +56,7 @@ fn read_sized(r: Setting, frame: &[u8], spectrum: &mut [i32], residual: &mut [u8
         Answers (told o) (judgedSized r (now (frame .entry)) (length (now (spectrum .entry))) (length (now (residual .entry))))
         (now (spectrum .entry)) (now (spectrum .exit)) (now (residual .entry)) (now (residual .exit))
         ⌝ }
-    ensures { λ o. ⌜ Bounded (lastCause (r .order)) (told o) (now (spectrum .exit)) ⌝ }
+    ensures { λ o. ⌜ Bounded (lastCause (orderOf (r .duration))) (told o) (now (spectrum .exit)) ⌝ }
 {
     let lines = r.lines;
     if spectrum.len() != lines {

@@ -10,12 +10,12 @@ use lib.IntN.{ℤ}
 use Rattle.coder_tables.specs.Tables.{orderTable, coefficientTable}
 use Rattle.coder_tables.proofs.Rules.{order-row, coefficient-row}
 use Rattle.frame_bits.specs.Read.{Read, value, cause}
-use Rattle.frame_settings.specs.Settings.{weighting, lastCause}
+use Rattle.frame_settings.specs.Settings.{orderOf, weighting, lastCause}
 use Rattle.frame_settings.proofs.TenMs.{least-causes}
 use Rattle.frame_coder.specs.Symbol.{startOf}
 use Rattle.frame_tns.specs.Tns.{Filter, filterOf, filterGiven, unused}
 use Rattle.frame_spectral.specs.Spectral.{Spectral, spectralFrom, spectralGiven}
-use Rattle.frame_arithmetic.specs.Answers.{Whole, arithmeticFrom}
+use Rattle.frame_arithmetic.specs.Answers.{Whole, tnsOf, arithmeticFrom}
 use Rattle.frame_arithmetic.specs.Answers.{Judged, refused, judgedRead, givenOf, Answers}
 use Rattle.frame_answers.specs.Answers.{Given, refusedWith, answered, told}
 use Rattle.frame_pairs.specs.Sound.{Small}
@@ -40,41 +40,37 @@ tns-tables orders rows e f = rw (e, f) (record { order = order-row; coefficient 
 
 -- ---- the arithmetic stream
 
--- the first filter's data, and the second's
-unfoldable pub firstAt : List ℕ → Setting → Side → Read Coder Filter
-firstAt s r v = filterOf s orderTable coefficientTable (weighting (r .weighting) (length s)) (r .order) (v .flags .«tns_0») (startOf s)
+pub tns-at : (s : List ℕ) (r : Setting) (flag : ℕ) (c : Coder) (orders rows : List ℕ) (w highest : ℕ) (x : Read Coder Filter)
+    → orders ≡ orderTable → rows ≡ coefficientTable → w ≡ weighting (r .duration) (length s) → highest ≡ orderOf (r .duration)
+    → x ≡ filterOf s orders rows w highest flag c → tnsOf s r flag c ≡ x
+unfolding tnsOf
+tns-at s r flag c orders rows w highest x e f l m q = sym (rw (e, f, l, m) at q)
 
-unfoldable pub secondAt : List ℕ → Setting → Side → Coder → Read Coder Filter
-secondAt s r v c = filterOf s orderTable coefficientTable (weighting (r .weighting) (length s)) (r .order) (v .flags .«tns_1») c
+-- what the two filters' data are
+abbrev pub First : List ℕ → Setting → Side → Read Coder Filter → Type 0
+First s r v x = tnsOf s r (v .flags .«tns_0») (startOf s) ≡ x
 
-module _ (s : List ℕ) (r : Setting) (v : Side) (c : Coder) (orders rows : List ℕ) (w : ℕ) (x : Read Coder Filter) (e : orders ≡ orderTable)
-    (f : rows ≡ coefficientTable) (l : w ≡ weighting (r .weighting) (length s)) where
-  pub first-at : c ≡ startOf s → x ≡ filterOf s orders rows w (r .order) (v .flags .«tns_0») c → firstAt s r v ≡ x
-  unfolding firstAt
-  first-at o q = sym (rw (e, f, l, o) at q)
+abbrev pub Second : List ℕ → Setting → Side → Coder → Read Coder Filter → Type 0
+Second s r v c x = tnsOf s r (v .flags .«tns_1») c ≡ x
 
-  pub second-at : x ≡ filterOf s orders rows w (r .order) (v .flags .«tns_1») c → secondAt s r v c ≡ x
-  unfolding secondAt
-  second-at q = sym (rw (e, f, l) at q)
-
-pub arithmetic-first : (s : List ℕ) (r : Setting) (v : Side) (p k : ℕ) → firstAt s r v ≡ cause k → arithmeticFrom s r v p ≡ cause k
-unfolding arithmeticFrom firstAt
+pub arithmetic-first : (s : List ℕ) (r : Setting) (v : Side) (p k : ℕ) → First s r v (cause k) → arithmeticFrom s r v p ≡ cause k
+unfolding arithmeticFrom
 arithmetic-first s r v p k e = rw e
 
-pub arithmetic-second : (s : List ℕ) (r : Setting) (v : Side) (p k : ℕ) (f : Filter) (c : Coder) → firstAt s r v ≡ value f c
-    → secondAt s r v c ≡ cause k → arithmeticFrom s r v p ≡ cause k
-unfolding arithmeticFrom firstAt secondAt
+pub arithmetic-second : (s : List ℕ) (r : Setting) (v : Side) (p k : ℕ) (f : Filter) (c : Coder) → First s r v (value f c)
+    → Second s r v c (cause k) → arithmeticFrom s r v p ≡ cause k
+unfolding arithmeticFrom
 arithmetic-second s r v p k f c e g = rw (e, g)
 
-pub arithmetic-third : (s : List ℕ) (r : Setting) (v : Side) (p k : ℕ) (f g : Filter) (c d : Coder) → firstAt s r v ≡ value f c
-    → secondAt s r v c ≡ value g d → spectralFrom s r (v .head) d p ≡ cause k → arithmeticFrom s r v p ≡ cause k
-unfolding arithmeticFrom firstAt secondAt
+pub arithmetic-third : (s : List ℕ) (r : Setting) (v : Side) (p k : ℕ) (f g : Filter) (c d : Coder) → First s r v (value f c)
+    → Second s r v c (value g d) → spectralFrom s r (v .head) d p ≡ cause k → arithmeticFrom s r v p ≡ cause k
+unfolding arithmeticFrom
 arithmetic-third s r v p k f g c d e i j = rw (e, i, j)
 
-pub arithmetic-value : (s : List ℕ) (r : Setting) (v : Side) (p q : ℕ) (f g : Filter) (c d : Coder) (y : Spectral) → firstAt s r v ≡ value f c
-    → secondAt s r v c ≡ value g d → spectralFrom s r (v .head) d p ≡ value y q
+pub arithmetic-value : (s : List ℕ) (r : Setting) (v : Side) (p q : ℕ) (f g : Filter) (c d : Coder) (y : Spectral) → First s r v (value f c)
+    → Second s r v c (value g d) → spectralFrom s r (v .head) d p ≡ value y q
     → arithmeticFrom s r v p ≡ value (record { side = v; first = f; second = g; spectral = y }) q
-unfolding arithmeticFrom firstAt secondAt
+unfolding arithmeticFrom
 arithmetic-value s r v p q f g c d y e i j = rw (e, i, j)
 
 -- no symbol was taken at the start
@@ -83,33 +79,32 @@ start-taken s c e = ap (λ (x : Coder). x .taken) e
 
 -- a cause that can arise at the setting
 abbrev pub Possible : Setting → ℕ → Type 0
-Possible r k = (1 ≤ k) × (k ≤ lastCause (r .order))
+Possible r k = (1 ≤ k) × (k ≤ lastCause (orderOf (r .duration)))
 
-filter-cause : (s : List ℕ) (r : Setting) (c : Coder) (g : FilterRead) (k : ℕ) → g ≡ filter.Cause k → GoodFilter s (r .order) c g
-    → Possible r k
-filter-cause s r c g k i a =
-    let b : GoodFilter s (r .order) c (filter.Cause k) = rw i at a in
+filter-cause : (s : List ℕ) (r : Setting) (highest : ℕ) (c : Coder) (g : FilterRead) (k : ℕ) → highest ≡ orderOf (r .duration)
+    → g ≡ filter.Cause k → GoodFilter s highest c g → Possible r k
+filter-cause s r highest c g k m i a =
+    let b : GoodFilter s (orderOf (r .duration)) c (filter.Cause k) = rw (m, i) at a in
     (omega (arith, b .0), b .1)
 
 -- the three refusals: g is what was answered, k its cause
-pub first-refused :
-    (s : List ℕ) (r : Setting) (v : Side) (p : ℕ) (c : Coder) (g : FilterRead) (l : List ℕ) (k : ℕ) → firstAt s r v ≡ filterGiven g l
-    → g ≡ filter.Cause k → GoodFilter s (r .order) c g → (arithmeticFrom s r v p ≡ cause k) × Possible r k
-first-refused s r v p c g l k f i a = (arithmetic-first s r v p k (rw i at f), filter-cause s r c g k i a)
+module _ (s : List ℕ) (r : Setting) (v : Side) (p highest : ℕ) (m : highest ≡ orderOf (r .duration)) where
+  pub first-refused : (c : Coder) (g : FilterRead) (l : List ℕ) (k : ℕ) → First s r v (filterGiven g l) → g ≡ filter.Cause k
+      → GoodFilter s highest c g → (arithmeticFrom s r v p ≡ cause k) × Possible r k
+  first-refused c g l k f i a = (arithmetic-first s r v p k (rw i at f), filter-cause s r highest c g k m i a)
 
-pub second-refused :
-    (s : List ℕ) (r : Setting) (v : Side) (p : ℕ) (o : Filter) (c : Coder) (g : FilterRead) (l : List ℕ) (k : ℕ)
-    → firstAt s r v ≡ value o c → secondAt s r v c ≡ filterGiven g l → g ≡ filter.Cause k → GoodFilter s (r .order) c g
-    → (arithmeticFrom s r v p ≡ cause k) × Possible r k
-second-refused s r v p o c g l k h f i a = (arithmetic-second s r v p k o c h (rw i at f), filter-cause s r c g k i a)
+  pub second-refused : (o : Filter) (c : Coder) (g : FilterRead) (l : List ℕ) (k : ℕ) → First s r v (value o c)
+      → Second s r v c (filterGiven g l) → g ≡ filter.Cause k → GoodFilter s highest c g
+      → (arithmeticFrom s r v p ≡ cause k) × Possible r k
+  second-refused o c g l k h f i a = (arithmetic-second s r v p k o c h (rw i at f), filter-cause s r highest c g k m i a)
 
 pub third-refused :
     (s : List ℕ) (r : Setting) (v : Side) (p : ℕ) (o u : Filter) (c d : Coder) (g : SpectralRead) (lines : List ℤ) (bits : List ℕ)
-    (k last : ℕ) → firstAt s r v ≡ value o c → secondAt s r v c ≡ value u d → spectralGiven g lines bits ≡ spectralFrom s r (v .head) d p
+    (k last : ℕ) → First s r v (value o c) → Second s r v c (value u d) → spectralGiven g lines bits ≡ spectralFrom s r (v .head) d p
     → g ≡ spectralRead.Cause k → GoodSpectral last g lines → (arithmeticFrom s r v p ≡ cause k) × Possible r k
 third-refused s r v p o u c d g lines bits k last h w f i a =
     let b : GoodSpectral last (spectralRead.Cause k) lines = rw i at a in
-    (arithmetic-third s r v p k o u c d h w (sym (rw i at f)), (b .0, omega (arith, b .1, least-causes (r .order))))
+    (arithmetic-third s r v p k o u c d h w (sym (rw i at f)), (b .0, omega (arith, b .1, least-causes (orderOf (r .duration)))))
 
 -- ---- the answer and both buffers, as a judgement j asks
 
@@ -155,9 +150,9 @@ answers-length = refuses answer.Length 2 refl (omega arith) (omega arith)
 pub answers-cause : (r : Setting) (o : Reading) (x : Read ℕ Whole) (k : ℕ) (spectrum spectrum′ : List ℤ) (residual residual′ : List ℕ)
     → o ≡ record { answer = answer.BitError k; «tns_coefficients_0» = unused; «tns_coefficients_1» = unused } → x ≡ cause k
     → spectrum′ ≡ spectrum → residual′ ≡ residual → Possible r k
-    → Answered (lastCause (r .order)) o (judgedRead x) spectrum spectrum′ residual residual′
+    → Answered (lastCause (orderOf (r .duration))) o (judgedRead x) spectrum spectrum′ residual residual′
 answers-cause r o x k spectrum spectrum′ residual residual′ e f a b h = rw (a, b)
-    (answers-refused (lastCause (r .order)) (told o) (judgedRead x) 5 k spectrum residual (ap told e) (ap judgedRead f) (omega arith)
+    (answers-refused (lastCause (orderOf (r .duration))) (told o) (judgedRead x) 5 k spectrum residual (ap told e) (ap judgedRead f) (omega arith)
     (λ z. h .0) (h .1))
 
 pub answers-value : (most : ℕ) (x : Read ℕ Whole) (v : Side) (f g : Filter) (y : Spectral) (q : ℕ) (spectrum : List ℤ) (residual : List ℕ)

@@ -2,7 +2,7 @@
 // definition in specs/Answers.antt asks for.
 // Inner: `frame` stands over it. It asks for a known setting, a frame of 20 to 400 bytes, its side information as read, and buffers of its
 // line count.
-ghost use Rattle.frame_settings.specs.Settings.{Known, Sized, lastCause};
+ghost use Rattle.frame_settings.specs.Settings.{Known, Sized, orderOf, lastCause};
 ghost use Rattle.frame_answers.specs.Answers.{told};
 ghost use Rattle.frame_arithmetic.specs.Answers.{judgedRead, arithmeticFrom, Answers};
 ghost use Rattle.frame_side.specs.Sound.{Sided};
@@ -36,13 +36,13 @@ pub fn read_arithmetic(
         Answers (told o) (judgedRead (arithmeticFrom (now (frame .entry)) r v p))
         (now (spectrum .entry)) (now (spectrum .exit)) (now (residual .entry)) (now (residual .exit))
         ⌝ }
-    ensures { λ o. ⌜ Bounded (lastCause (r .order)) (told o) (now (spectrum .exit)) ⌝ }
+    ensures { λ o. ⌜ Bounded (lastCause (orderOf (r .duration))) (told o) (now (spectrum .exit)) ⌝ }
 {
     let orders = coder_tables::tns_order();
     let rows = coder_tables::tns_coefficients();
-    let w = frame_settings::tns_weighting(r.weighting, frame.len());
+    let w = frame_settings::tns_weighting(r.duration, frame.len());
     let f = v.flags;
-    let highest = r.order;
+    let highest = frame_settings::highest_order(r.duration);
     let mut first = [0u8; 8];
     let mut second = [0u8; 8];
     let start = frame_coder::start(frame);

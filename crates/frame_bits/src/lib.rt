@@ -1,12 +1,13 @@
 // The side stream (5.4.2.9): bits from the last byte backwards. The cursor p is the number of bits read. Each function equals its
 // definition in specs/Bits.antt.
-// Inner: the crates of `frame` stand over it. It asks for a frame of 20 to 400 bytes and for at most 32 bits at a time.
+// Inner: the crates of `frame` stand over it. It asks for a frame of 20 to 400 bytes, for a field of at most 25 bits that starts among the
+// first 128.
 ghost use mathlib.Core.Path.{_≡_};
 ghost use Prim.Native.Nat.{_+_, _*_, _≤_, _<_};
 ghost use lib.ListN.{length};
 ghost use Rattle.frame_settings.specs.Settings.{Sized};
 ghost use Rattle.frame_bits.specs.Bits.{bitOf, readBit, bitGiven};
-ghost use Rattle.frame_bits.specs.Sound.{GoodBit, GoodField};
+ghost use Rattle.frame_bits.specs.Sound.{GoodBit, GoodField, backOf};
 use widening::wide;
 
 // A bit with the next cursor; or it would stand outside the frame, which is cause 6.
@@ -44,21 +45,25 @@ pub fn read_bit(s: &[u8], p: usize) -> Bit
     }
 }
 
-// The field of n bits from p on, which the caller knows to be inside the frame.
+// Four bytes from one place back, the first the lowest.
+fn four_back(s: &[u8], at: usize) -> usize
+    requires { ⌜ 3 ≤ at ⌝ }
+    requires { ⌜ at < length (now s) ⌝ }
+    ensures { λ r. ⌜ r ≡ backOf (now (s .entry)) at 4 ⌝ }
+{
+    wide(s[at]) + 256 * (wide(s[at - 1]) + 256 * (wide(s[at - 2]) + 256 * wide(s[at - 3])))
+}
+
+// The field of n bits from p on: four bytes have it whole, and every frame has them there.
 pub fn read_bits(s: &[u8], p: usize, n: usize) -> Field
-    requires { ⌜ n ≤ 32 ⌝ }
-    requires { ⌜ p + n ≤ 8 * length (now s) ⌝ }
+    requires { ⌜ n ≤ 25 ⌝ }
+    requires { ⌜ p ≤ 128 ⌝ }
     requires { ⌜ Sized (now s) ⌝ }
     ensures { λ r. ⌜ GoodField (now (s .entry)) p n r ⌝ }
 {
-    let mut v = 0;
-    let mut i = 0;
-    while i < n {
-        v = v + (bit_at(s, p + i) << i);
-        i = i + 1;
-    }
+    let bytes = four_back(s, s.len() - 1 - p / 8);
     Field {
-        value: v,
+        value: (bytes >> (p % 8)) % (1 << n),
         next: p + n,
     }
 }

@@ -3,6 +3,7 @@
 -- Assumes nothing.
 use mathlib.Core.Path.{_≡_, refl, subst, sym, ap, _∙_}
 use mathlib.Core.Bool.{Bool, true, false, cond}
+use mathlib.Core.Option.{Option, none, some}
 use mathlib.Core.List.{List, [], _∷_}
 use mathlib.Core.Logic.{inl, inr}
 use Prim.Native.Nat.{ℕ, _+_, _*_, _/_, _≤_, _<_}
@@ -12,8 +13,8 @@ use lib.Dec.{T, eqb, ltb, leb, eqb→eq, ltb→lt, leb→le}
 use types.Run.{OneOf}
 use borrow.Author.Tests.{eqb-true, eq-eqb, ne-eqb, le-leb}
 use Rattle.laws.proofs.Every.{both, implies, implies-elim, both-left, both-right, every, at}
-use Rattle.frame_settings.specs.Settings.{Rate, rates, durations, pairBits, setting, knownSetting, settingIn, listed, settingOf}
-use Rattle.frame_settings.specs.Settings.{linesAt, lineCount, Known, KnownSetting}
+use Rattle.frame_settings.specs.Settings.{Rate, rate, rates, durations, pairBits, setting, rateIn, listed, settingFor}
+use Rattle.frame_settings.specs.Settings.{settingOf, linesOf, linesAt, lineCount, halfOf, Known, KnownSetting}
 use Rattle.frame_settings.specs.declared.Setting.{Setting}
 use Rattle.frame_settings.specs.declared.Settled.{Settled}
 use Rattle.frame_settings.specs.declared.Settled.the-variants as settled
@@ -67,78 +68,119 @@ pair-ranged half h l =
     (implies-elim (leb 7 half) (eqb (ranged half) (pairBits half))
     (at 255 (λ x. implies (leb 7 x) (eqb (ranged x) (pairBits x))) tt half (omega arith)) (subst T (sym (le-leb 7 half h)) tt))
 
--- ---- the lines
+-- ---- half of the lines
 
-pub product-between : (khz q : ℕ) → (8 ≤ khz) × (khz ≤ 48) → (10 ≤ q) × (q ≤ 40) → (80 ≤ khz * q) × (khz * q ≤ 1920)
-product-between khz q k d = (mul-le-mul (k .0) (d .0), mul-le-mul (k .1) (d .1))
+pub half-between : (index q : ℕ) → index ≤ 4 → (10 ≤ q) × (q ≤ 40) → (10 ≤ q * (index + 1)) × (q * (index + 1) ≤ 200)
+half-between index q h d =
+    let l : 1 ≤ index + 1 = omega arith in
+    let m : index + 1 ≤ 5 = omega arith in
+    (mul-le-mul (d .0) l, mul-le-mul (d .1) m)
+
+-- ---- the rates
+
+-- a rate that the code names is a row of the table
+pub rate-row : (khz k index bandwidth : ℕ) → khz ≡ k → rateIn rates k ≡ some (rate k index bandwidth)
+    → some (rate khz index bandwidth) ≡ rateIn rates khz
+rate-row khz k index bandwidth e t = rw e (sym t)
+
+-- none of the table's
+abbrev Other : List Rate → ℕ → Type 0
+Other [] khz = Unit {0}
+Other (x ∷ xs) khz = (khz ≡ x .khz → ⊥) × Other xs khz
+
+other-in : (xs : List Rate) (khz : ℕ) → Other xs khz → rateIn xs khz ≡ none
+other-in [] khz o = refl
+other-in (x ∷ xs) khz o = ap (λ (b : Bool). cond b (some x) (rateIn xs khz)) (ne-eqb khz (x .khz) (o .0)) ∙ other-in xs khz (o .1)
+
+pub no-rate : (khz : ℕ) → Other rates khz → none ≡ rateIn rates khz
+no-rate khz o = sym (other-in rates khz o)
 
 -- ---- what the settings have in common
 
 abbrev sizes : Setting → Bool
-sizes r = both (both (ltb 0 (r .lines)) (leb (r .lines) 400)) (eqb (r .lines) (2 * r .half))
+sizes r = both (both (ltb 0 (r .lines)) (leb (r .lines) 400)) (eqb (r .lines) (2 * halfOf r))
 
 abbrev widths : Setting → Bool
-widths r = both (leb (r .bandwidth) 3) (both (leb (r .pair) 8) (both (leb 1 (r .filters)) (leb (r .filters) 2)))
+widths r = both (leb (r .bandwidth) 3) (leb (r .pair) 8)
+
+abbrev numbers : Setting → Bool
+numbers r = both (leb (r .index) 4) (leb (r .duration) 40)
 
 abbrev sound : Setting → Bool
-sound r = both (sizes r) (widths r)
+sound r = both (sizes r) (both (widths r) (numbers r))
 
-abbrev soundAt : ℕ → Bool
-soundAt q = everyOf rates (λ x. sound (setting x q))
+abbrev soundAt : ℕ → Rate → Bool
+soundAt q x = sound (setting (x .index) (x .bandwidth) q)
 
 abbrev Sound : Settled → Type 0
 Sound (settled.Known r) = T (sound r)
 Sound settled.Unknown = Unit {0}
 
-sound-cond : (b : Bool) (p q : Settled) → (b ≡ true → Sound p) → (b ≡ false → Sound q) → Sound (cond b p q)
-sound-cond true p q t u = t refl
-sound-cond false p q t u = u refl
+-- what all of a table pass, the rate that is found passes
+abbrev Passed : (Rate → Bool) → Option Rate → Type 0
+Passed f none = Unit {0}
+Passed f (some x) = T (f x)
 
-sound-in : (xs : List Rate) (q : ℕ) → T (everyOf xs (λ x. sound (setting x q))) → (khz : ℕ) → Sound (settingIn xs khz q)
-sound-in [] q t khz = tt
-sound-in (x ∷ xs) q t khz =
-    let f : Rate → Bool = λ y. sound (setting y q) in
-    sound-cond (eqb khz (x .khz)) (knownSetting x q) (settingIn xs khz q) (λ e. both-left (f x) (everyOf xs f) t)
-    (λ e. sound-in xs q (both-right (f x) (everyOf xs f) t) khz)
+either-passed : (f : Rate → Bool) (b : Bool) (o p : Option Rate) → Passed f o → Passed f p → Passed f (cond b o p)
+either-passed f true o p t u = t
+either-passed f false o p t u = u
+
+found-passed : (xs : List Rate) (f : Rate → Bool) → T (everyOf xs f) → (khz : ℕ) → Passed f (rateIn xs khz)
+found-passed [] f t khz = tt
+found-passed (x ∷ xs) f t khz =
+    either-passed f (eqb khz (x .khz)) (some x) (rateIn xs khz) (both-left (f x) (everyOf xs f) t)
+    (found-passed xs f (both-right (f x) (everyOf xs f) t) khz)
+
+pub rate-index : (khz index bandwidth : ℕ) → some (rate khz index bandwidth) ≡ rateIn rates khz → index ≤ 4
+rate-index khz index bandwidth e =
+    let f : Rate → Bool = λ x. leb (x .index) 4 in
+    leb→le index 4 (subst (Passed f) (sym e) (found-passed rates f tt khz))
+
+sound-for : (o : Option Rate) (q : ℕ) → (T (listed durations q) → Passed (soundAt q) o) → Sound (settingFor o q)
+sound-for none q p = tt
+sound-for (some x) q p = go (listed durations q) p
+  where
+    go : (b : Bool) → (T b → T (soundAt q x)) → Sound (cond b (settled.Known (setting (x .index) (x .bandwidth) q)) settled.Unknown)
+    go true h = h tt
+    go false h = tt
 
 sound-setting : (khz q : ℕ) → Sound (settingOf khz q)
 unfolding settingOf
 sound-setting khz q =
-    sound-cond (listed durations q) (settingIn rates khz q) settled.Unknown
-    (λ e. sound-in rates q (at-listed durations soundAt tt q (subst T (sym e) tt)) khz) (λ e. tt)
+    sound-for (rateIn rates khz) q
+    (λ l. found-passed rates (soundAt q) (at-listed durations (λ d. everyOf rates (soundAt d)) tt q l) khz)
 
 module _ (r : Setting) (t : T (sound r)) where
+  size : T (both (ltb 0 (r .lines)) (leb (r .lines) 400))
+  size =
+      both-left (both (ltb 0 (r .lines)) (leb (r .lines) 400)) (eqb (r .lines) (2 * halfOf r))
+      (both-left (sizes r) (both (widths r) (numbers r)) t)
+
   some-lines : 0 < r .lines
-  some-lines =
-      ltb→lt 0 (r .lines)
-      (both-left (ltb 0 (r .lines)) (leb (r .lines) 400)
-      (both-left (both (ltb 0 (r .lines)) (leb (r .lines) 400)) (eqb (r .lines) (2 * r .half)) (both-left (sizes r) (widths r) t)))
+  some-lines = ltb→lt 0 (r .lines) (both-left (ltb 0 (r .lines)) (leb (r .lines) 400) size)
 
   known : Known r
   known =
-      let s = both-left (sizes r) (widths r) t in
-      let w = both-right (sizes r) (widths r) t in
-      let v = both-right (leb (r .bandwidth) 3) (both (leb (r .pair) 8) (both (leb 1 (r .filters)) (leb (r .filters) 2))) w in
-      let u = both-right (leb (r .pair) 8) (both (leb 1 (r .filters)) (leb (r .filters) 2)) v in
+      let s = both-left (sizes r) (both (widths r) (numbers r)) t in
+      let u = both-right (sizes r) (both (widths r) (numbers r)) t in
+      let w = both-left (widths r) (numbers r) u in
+      let n = both-right (widths r) (numbers r) u in
       record {
-        lines = leb→le (r .lines) 400
-            (both-right (ltb 0 (r .lines)) (leb (r .lines) 400)
-            (both-left (both (ltb 0 (r .lines)) (leb (r .lines) 400)) (eqb (r .lines) (2 * r .half)) s));
-        even = eqb→eq (r .lines) (2 * r .half)
-            (both-right (both (ltb 0 (r .lines)) (leb (r .lines) 400)) (eqb (r .lines) (2 * r .half)) s);
-        bandwidth = leb→le (r .bandwidth) 3
-            (both-left (leb (r .bandwidth) 3) (both (leb (r .pair) 8) (both (leb 1 (r .filters)) (leb (r .filters) 2))) w);
-        pair = leb→le (r .pair) 8 (both-left (leb (r .pair) 8) (both (leb 1 (r .filters)) (leb (r .filters) 2)) v);
-        filter = leb→le 1 (r .filters) (both-left (leb 1 (r .filters)) (leb (r .filters) 2) u);
-        filters = leb→le (r .filters) 2 (both-right (leb 1 (r .filters)) (leb (r .filters) 2) u);
+        index = leb→le (r .index) 4 (both-left (leb (r .index) 4) (leb (r .duration) 40) n);
+        lines = leb→le (r .lines) 400 (both-right (ltb 0 (r .lines)) (leb (r .lines) 400) size);
+        even = eqb→eq (r .lines) (2 * halfOf r)
+            (both-right (both (ltb 0 (r .lines)) (leb (r .lines) 400)) (eqb (r .lines) (2 * halfOf r)) s);
+        bandwidth = leb→le (r .bandwidth) 3 (both-left (leb (r .bandwidth) 3) (leb (r .pair) 8) w);
+        pair = leb→le (r .pair) 8 (both-right (leb (r .bandwidth) 3) (leb (r .pair) 8) w);
+        duration = leb→le (r .duration) 40 (both-right (leb (r .index) 4) (leb (r .duration) 40) n);
       }
 
 known-in : (x : Settled) → Sound x → KnownSetting x
 known-in (settled.Known r) t = known r t
 known-in settled.Unknown t = tt
 
-known-setting : (khz q : ℕ) (x : Settled) → x ≡ settingOf khz q → KnownSetting x
-known-setting khz q x e = rw e (known-in (settingOf khz q) (sound-setting khz q))
+pub known-setting : (khz q : ℕ) (x : Settled) → x ≡ settingOf khz q → (x ≡ settingOf khz q) × KnownSetting x
+known-setting khz q x e = (e, rw e (known-in (settingOf khz q) (sound-setting khz q)))
 
 lines-in : (x : Settled) → Sound x → linesAt x ≤ 400
 lines-in (settled.Known r) t = known r t .lines
@@ -156,29 +198,59 @@ unknown-in settled.Unknown t z = refl
 pub setting-unknown : (khz q : ℕ) → linesAt (settingOf khz q) ≡ 0 → settingOf khz q ≡ settled.Unknown
 setting-unknown khz q z = unknown-in (settingOf khz q) (sound-setting khz q) z
 
--- ---- a rate and a duration that the code names, and others
+-- ---- the setting of a rate that was found or not, and a duration that is listed or not
 
-pub setting-row : (khz k q : ℕ) (x y : Settled) → listed durations q ≡ true → khz ≡ k → settingIn rates k q ≡ y → x ≡ y
-    → (x ≡ settingOf khz q) × KnownSetting x
+module _ (khz q : ℕ) where
+  pub rate-missing : none ≡ rateIn rates khz → settled.Unknown ≡ settingOf khz q
+  unfolding settingOf
+  rate-missing e = rw (← e)
+
+  module _ (index bandwidth : ℕ) (e : some (rate khz index bandwidth) ≡ rateIn rates khz) where
+    pub setting-found : listed durations q ≡ true → settled.Known (setting index bandwidth q) ≡ settingOf khz q
+    unfolding settingOf
+    setting-found l = rw (← e, l)
+
+    pub duration-missing : listed durations q ≡ false → settled.Unknown ≡ settingOf khz q
+    unfolding settingOf
+    duration-missing l = rw (← e, l)
+
+-- ---- the lines are those of formula 7
+
+abbrev Keyed : ℕ → Option Rate → Type 0
+Keyed khz none = Unit {0}
+Keyed khz (some x) = khz ≡ x .khz
+
+keyed-first : (khz : ℕ) (x : Rate) (b : Bool) (o : Option Rate) → eqb khz (x .khz) ≡ b → Keyed khz o → Keyed khz (cond b (some x) o)
+keyed-first khz x true o e k = eqb-true khz (x .khz) e
+keyed-first khz x false o e k = k
+
+found-keyed : (xs : List Rate) (khz : ℕ) → Keyed khz (rateIn xs khz)
+found-keyed [] khz = tt
+found-keyed (x ∷ xs) khz = keyed-first khz x (eqb khz (x .khz)) (rateIn xs khz) refl (found-keyed xs khz)
+
+abbrev byFormula : ℕ → Rate → Bool
+byFormula q x = eqb (2 * (q * (x .index + 1))) (linesOf (x .khz) q)
+
+-- n lines, where there is a setting
+abbrev Lines : ℕ → Settled → Type 0
+Lines n (settled.Known r) = r .lines ≡ n
+Lines n settled.Unknown = Unit {0}
+
+formula-for : (khz q : ℕ) (o : Option Rate) → Keyed khz o → (T (listed durations q) → Passed (byFormula q) o)
+    → Lines (linesOf khz q) (settingFor o q)
+formula-for khz q none k p = tt
+formula-for khz q (some x) k p = rw k (go (listed durations q) p)
+  where
+    go : (b : Bool) → (T b → T (byFormula q x))
+        → Lines (linesOf (x .khz) q) (cond b (settled.Known (setting (x .index) (x .bandwidth) q)) settled.Unknown)
+    go true h = eqb→eq (2 * (q * (x .index + 1))) (linesOf (x .khz) q) (h tt)
+    go false h = tt
+
+formula-7 : (khz q : ℕ) → Lines (linesOf khz q) (settingOf khz q)
 unfolding settingOf
-setting-row khz k q x y l e t p =
-    let i : x ≡ settingOf khz q = rw (l, e) (p ∙ sym t) in
-    (i, known-setting khz q x i)
+formula-7 khz q =
+    formula-for khz q (rateIn rates khz) (found-keyed rates khz)
+    (λ l. found-passed rates (byFormula q) (at-listed durations (λ d. everyOf rates (byFormula d)) tt q l) khz)
 
-pub no-duration : (khz q : ℕ) → listed durations q ≡ false → settled.Unknown ≡ settingOf khz q
-unfolding settingOf
-no-duration khz q l = rw l
-
--- none of the rates
-abbrev Other : List Rate → ℕ → Type 0
-Other [] khz = Unit {0}
-Other (x ∷ xs) khz = (khz ≡ x .khz → ⊥) × Other xs khz
-
-other-in : (xs : List Rate) (khz q : ℕ) → Other xs khz → settingIn xs khz q ≡ settled.Unknown
-other-in [] khz q o = refl
-other-in (x ∷ xs) khz q o =
-    ap (λ (b : Bool). cond b (knownSetting x q) (settingIn xs khz q)) (ne-eqb khz (x .khz) (o .0)) ∙ other-in xs khz q (o .1)
-
-pub no-rate : (khz q : ℕ) → listed durations q ≡ true → Other rates khz → settled.Unknown ≡ settingOf khz q
-unfolding settingOf
-no-rate khz q l o = rw l (sym (other-in rates khz q o))
+pub by-formula-7 : (khz q : ℕ) (r : Setting) → settingOf khz q ≡ settled.Known r → r .lines ≡ linesOf khz q
+by-formula-7 khz q r e = subst (Lines (linesOf khz q)) e (formula-7 khz q)

@@ -1,21 +1,39 @@
--- What stays at 10 ms: its settings are document 01's table, for every rate; causes 1 to 7 are there at every setting, and cause 8 at
--- neither 7.5 nor 10 ms. Assumes nothing.
+-- What stays at 10 ms: its settings are document 01's; causes 1 to 7 are there at every setting, and cause 8 at neither 7.5 nor 10 ms.
+-- Assumes nothing.
 use mathlib.Core.Path.{_≡_, refl}
 use mathlib.Core.Bool.{Bool, true, false, cond}
+use mathlib.Core.Option.{Option, none, some}
 use mathlib.Core.List.{List, [], _∷_}
 use Prim.Native.Nat.{ℕ, _<_, _≤_}
 use native.Mathlib.Omega.{arith}
-use lib.Dec.{eqb, ltb}
+use lib.Dec.{ltb, eqb}
 use borrow.Author.Tests.{lt-leb}
-use Rattle.frame_settings.specs.Settings.{Rate, rates, durations, knownSetting, settingIn, listed, settingOf, lastCause}
-use Rattle.frame_settings.specs.Settings.{lastCauseOf}
-use Rattle.frame_settings.specs.TenMs.{tenMs}
+use Rattle.frame_settings.specs.Settings.{Rate, rates, durations, setting, rateIn, listed, settingFor, settingOf}
+use Rattle.frame_settings.specs.Settings.{lastCause, lastCauseOf}
+use Rattle.frame_settings.specs.TenMs.{Row, settingIn, TenMs}
 use Rattle.frame_settings.specs.declared.Settled.{Settled}
 use Rattle.frame_settings.specs.declared.Settled.the-variants as settled
 
-pub ten-ms : (khz : ℕ) → settingOf khz 40 ≡ tenMs khz
-unfolding settingOf
-ten-ms khz = refl
+-- ---- document 01's table
+
+-- the rates with their settings of 10 ms
+rows : List Rate → List Row
+rows [] = []
+rows (x ∷ xs) = record { khz = x .khz; given = setting (x .index) (x .bandwidth) 40 } ∷ rows xs
+
+row-first : (x : Rate) (b : Bool) (o : Option Rate) (s : Settled) → settingFor o 40 ≡ s
+    → settingFor (cond b (some x) o) 40 ≡ cond b (settled.Known (setting (x .index) (x .bandwidth) 40)) s
+row-first x true o s e = refl
+row-first x false o s e = e
+
+in-rows : (xs : List Rate) (khz : ℕ) → settingFor (rateIn xs khz) 40 ≡ settingIn (rows xs) khz
+unfolding rows
+in-rows [] khz = refl
+in-rows (x ∷ xs) khz = row-first x (eqb khz (x .khz)) (rateIn xs khz) (settingIn (rows xs) khz) (in-rows xs khz)
+
+pub ten-ms : TenMs
+unfolding settingOf rows
+ten-ms = record { settings = in-rows rates; filters = refl; order = refl; weight = λ bytes. refl }
 
 -- ---- causes
 
@@ -26,16 +44,16 @@ least-causes order = go (ltb order 8)
     go true = omega arith
     go false = omega arith
 
-seven-either : (b : Bool) (x y : Settled) → lastCauseOf x ≡ 7 → lastCauseOf y ≡ 7 → lastCauseOf (cond b x y) ≡ 7
-seven-either true x y e f = e
-seven-either false x y e f = f
-
-seven-in : (xs : List Rate) (khz q : ℕ) → 20 < q → lastCauseOf (settingIn xs khz q) ≡ 7
+seven-for : (o : Option Rate) (q : ℕ) → 20 < q → lastCauseOf (settingFor o q) ≡ 7
 unfolding lastCauseOf
-seven-in [] khz q h = refl
-seven-in (x ∷ xs) khz q h = seven-either (eqb khz (x .khz)) (knownSetting x q) (settingIn xs khz q) (rw (lt-leb q 20 h)) (seven-in xs khz q h)
+seven-for none q h = refl
+seven-for (some x) q h = go (listed durations q)
+  where
+    go : (b : Bool) → lastCauseOf (cond b (settled.Known (setting (x .index) (x .bandwidth) q)) settled.Unknown) ≡ 7
+    go true = rw (lt-leb q 20 h)
+    go false = refl
 
 -- at 7.5 and 10 ms
 pub seven-causes : (khz q : ℕ) → 20 < q → lastCauseOf (settingOf khz q) ≡ 7
-unfolding settingOf lastCauseOf
-seven-causes khz q h = seven-either (listed durations q) (settingIn rates khz q) settled.Unknown (seven-in rates khz q h) refl
+unfolding settingOf
+seven-causes khz q h = seven-for (rateIn rates khz) q h

@@ -1,43 +1,54 @@
 // What the rate, the duration and the frame's length give (document 01, "Reading a frame"; request 02 §3): each function equals its
-// definition in specs/Settings.antt.
-// Inner: the crates of `frame` and `day_sample` stand over it. `rate_offset` and `tns_weighting` ask for a length in range; `setting_of`
-// and `line_count`, which `frame` hands on to callers, ask nothing.
+// definition in specs/Settings.antt. A duration is in quarter milliseconds.
+// Inner: the crates of `frame` and `day_sample` stand over it. `rate_offset` and `tns_weighting` ask for a setting's numbers and a length
+// in range; `setting_of` and `line_count`, which `frame` hands on to callers, ask nothing.
 ghost use mathlib.Core.Path.{_≡_};
 ghost use Prim.Native.Nat.{_≤_, _<_};
-ghost use Rattle.frame_settings.specs.Settings.{rate, knownSetting, settingOf, KnownSetting, listed, durations};
-ghost use Rattle.frame_settings.specs.Settings.{linesOf, pairBits, filtersOf, orderOf, lineCount, rateOffset, weighting};
+ghost use Rattle.frame_settings.specs.Settings.{durations, listed, pairBits, rates, rateIn, rateGiven, setting, settingOf};
+ghost use Rattle.frame_settings.specs.Settings.{KnownSetting, filtersOf, orderOf, lineCount, rateOffset, weighting};
 
-// The rate's index; the line count NE, and half of it; the bits of the fields bandwidth and last pair; the TNS filters at bandwidth 3 and 4,
-// and the highest TNS order; the frame's bits below which the weighting is 1, and those above which the contexts have the rate's offset.
+// The rate's index, the line count NE, the bits of the fields bandwidth and last pair, and the duration.
 pub struct Setting {
     pub index: usize,
     pub lines: usize,
-    pub half: usize,
     pub bandwidth: usize,
     pub pair: usize,
-    pub filters: usize,
-    pub order: usize,
-    pub weighting: usize,
-    pub offset: usize,
+    pub duration: usize,
 }
 
-// What a rate and a duration, in quarter milliseconds, settle.
+// What a rate and a duration settle.
 pub enum Settled {
     Known(Setting),
     Unknown,
 }
 
-// NE: at most 40 lines a millisecond.
-fn lines_of(khz: usize, duration: usize) -> usize
-    requires { ⌜ (8 ≤ khz) × (khz ≤ 48) ⌝ }
-    requires { ⌜ (10 ≤ duration) × (duration ≤ 40) ⌝ }
-    ensures { λ r. ⌜ r ≡ linesOf khz duration ⌝ }
-    ensures { λ r. ⌜ (14 ≤ r) × (r ≤ 508) ⌝ }
+// A rate's index and the bits of its bandwidth.
+pub enum Rated {
+    Rate(usize, usize),
+    NoRate,
+}
+
+// The rate of the table that has so many kHz.
+fn rate_of(khz: u32) -> Rated
+    ensures { λ r. ⌜ rateGiven khz r ≡ rateIn rates khz ⌝ }
 {
-    if khz < 40 {
-        khz * duration / 4
-    } else {
-        40 * duration / 4
+    match khz {
+        8 => Rated::Rate(0, 0),
+        16 => Rated::Rate(1, 1),
+        24 => Rated::Rate(2, 2),
+        32 => Rated::Rate(3, 2),
+        48 => Rated::Rate(4, 3),
+        _ => Rated::NoRate,
+    }
+}
+
+// Whether it is one of the four durations.
+fn is_duration(duration: u32) -> bool
+    ensures { λ r. ⌜ r ≡ listed durations duration ⌝ }
+{
+    match duration {
+        10 | 20 | 30 | 40 => true,
+        _ => false,
     }
 }
 
@@ -56,49 +67,19 @@ fn pair_bits(half: usize) -> usize
     }
 }
 
-// The TNS filters at bandwidth 3 and 4.
-fn filters_of(duration: usize) -> usize
-    ensures { λ r. ⌜ r ≡ filtersOf duration ⌝ }
-{
-    if duration == 10 { 1 } else { 2 }
-}
-
-// The highest TNS order.
-fn order_of(duration: usize) -> usize
-    ensures { λ r. ⌜ r ≡ orderOf duration ⌝ }
-{
-    if duration <= 20 { 4 } else { 8 }
-}
-
-// The setting of a rate, whose index and bandwidth bits are named, and of a duration.
-fn known(khz: usize, index: usize, bandwidth: usize, duration: usize) -> Settled
-    requires { ⌜ (8 ≤ khz) × (khz ≤ 48) ⌝ }
-    requires { ⌜ (10 ≤ duration) × (duration ≤ 40) ⌝ }
+// The setting of a rate, by its index and its bandwidth's bits, and a duration.
+fn known(index: usize, bandwidth: usize, duration: usize) -> Setting
     requires { ⌜ index ≤ 4 ⌝ }
-    ensures { λ r. ⌜ r ≡ knownSetting (rate khz index bandwidth) duration ⌝ }
+    requires { ⌜ (10 ≤ duration) × (duration ≤ 40) ⌝ }
+    ensures { λ r. ⌜ r ≡ setting index bandwidth duration ⌝ }
 {
-    let lines = lines_of(khz, duration);
-    let half = lines / 2;
-    Settled::Known(Setting {
+    let half = duration * (index + 1);
+    Setting {
         index,
-        lines,
-        half,
+        lines: 2 * half,
         bandwidth,
         pair: pair_bits(half),
-        filters: filters_of(duration),
-        order: order_of(duration),
-        weighting: 12 * duration,
-        offset: 160 + 160 * index,
-    })
-}
-
-// Whether it is one of the four durations.
-fn is_duration(duration: u32) -> bool
-    ensures { λ r. ⌜ r ≡ listed durations duration ⌝ }
-{
-    match duration {
-        10 | 20 | 30 | 40 => true,
-        _ => false,
+        duration,
     }
 }
 
@@ -107,36 +88,53 @@ pub fn setting_of(khz: u32, duration: u32) -> Settled
     ensures { λ r. ⌜ r ≡ settingOf khz duration ⌝ }
     ensures { λ r. ⌜ KnownSetting r ⌝ }
 {
-    if !is_duration(duration) {
+    let rate = rate_of(khz);
+    let Rated::Rate(index, bandwidth) = rate else {
         return Settled::Unknown;
+    };
+    if is_duration(duration) {
+        return Settled::Known(known(index, bandwidth, duration as usize));
     }
-    let q = duration as usize;
-    match khz {
-        8 => known(8, 0, 0, q),
-        16 => known(16, 1, 1, q),
-        24 => known(24, 2, 2, q),
-        32 => known(32, 3, 2, q),
-        48 => known(48, 4, 3, q),
-        _ => Settled::Unknown,
-    }
+    Settled::Unknown
 }
 
-// The offset of the contexts, by the frame's bits and the setting's limit.
-pub fn rate_offset(limit: usize, bytes: usize) -> usize
-    requires { ⌜ bytes ≤ 400 ⌝ }
-    ensures { λ r. ⌜ r ≡ rateOffset limit bytes ⌝ }
-    ensures { λ r. ⌜ r ≤ 512 ⌝ }
+// The TNS filters at bandwidth 3 and 4.
+pub fn tns_filters(duration: usize) -> usize
+    ensures { λ r. ⌜ r ≡ filtersOf duration ⌝ }
+    ensures { λ r. ⌜ (1 ≤ r) × (r ≤ 2) ⌝ }
 {
-    if limit < 8 * bytes { 512 } else { 0 }
+    if duration == 10 { 1 } else { 2 }
 }
 
-// The row of the TNS orders, by the frame's bits and the setting's limit.
-pub fn tns_weighting(limit: usize, bytes: usize) -> usize
+// The highest TNS order.
+pub fn highest_order(duration: usize) -> usize
+    ensures { λ r. ⌜ r ≡ orderOf duration ⌝ }
+{
+    if duration <= 20 { 4 } else { 8 }
+}
+
+// The row of the TNS orders, by the duration and the frame's bits.
+pub fn tns_weighting(duration: usize, bytes: usize) -> usize
+    requires { ⌜ duration ≤ 40 ⌝ }
     requires { ⌜ bytes ≤ 400 ⌝ }
-    ensures { λ r. ⌜ r ≡ weighting limit bytes ⌝ }
+    ensures { λ r. ⌜ r ≡ weighting duration bytes ⌝ }
     ensures { λ r. ⌜ r < 2 ⌝ }
 {
-    if 8 * bytes < limit { 1 } else { 0 }
+    if 8 * bytes < 12 * duration { 1 } else { 0 }
+}
+
+// The offset of the contexts, by the rate and the frame's bits.
+pub fn rate_offset(index: usize, bytes: usize) -> usize
+    requires { ⌜ index ≤ 4 ⌝ }
+    requires { ⌜ bytes ≤ 400 ⌝ }
+    ensures { λ r. ⌜ r ≡ rateOffset index bytes ⌝ }
+    ensures { λ r. ⌜ r ≤ 512 ⌝ }
+{
+    if 160 + 160 * index < 8 * bytes {
+        512
+    } else {
+        0
+    }
 }
 
 // NE, the number of lines at a rate and a duration; 0 where one of them is out of range.

@@ -8,6 +8,7 @@ use Rattle.frame_bits.specs.Sound.{GoodField}
 use Rattle.frame_bits.specs.declared.Field.{Field}
 use Rattle.frame_side.specs.Side.{headOf, flagsOf, secondFlag, tailOf, sideOf}
 use Rattle.frame_shape.specs.Shape.{shapeOf}
+use Rattle.frame_settings.specs.Settings.{filtersOf}
 use Rattle.frame_settings.specs.declared.Setting.{Setting}
 use Rattle.frame_side.specs.declared.Head.{Head}
 use Rattle.frame_side.specs.declared.Flags.{Flags}
@@ -53,13 +54,13 @@ side-head s r k e = rw e
 
 pub side-shape :
     (s : List ℕ) (r : Setting) (h : Head) (p : ℕ) (f : Flags) (q k : ℕ) → headOf s r ≡ value h p
-    → flagsOf s (r .filters) (h .bandwidth) p ≡ value f q → shapeOf s q ≡ cause k → sideOf s r ≡ cause k
+    → flagsOf s (filtersOf (r .duration)) (h .bandwidth) p ≡ value f q → shapeOf s q ≡ cause k → sideOf s r ≡ cause k
 unfolding sideOf
 side-shape s r h p f q k e d i = rw (e, d, i)
 
 pub side-done :
     (s : List ℕ) (r : Setting) (h : Head) (p : ℕ) (f : Flags) (q : ℕ) (x : Shape) (u : ℕ) (t : Tail) (v : ℕ) → headOf s r ≡ value h p
-    → flagsOf s (r .filters) (h .bandwidth) p ≡ value f q → shapeOf s q ≡ value x u → tailOf s (f .«pitch_present») u ≡ value t v
+    → flagsOf s (filtersOf (r .duration)) (h .bandwidth) p ≡ value f q → shapeOf s q ≡ value x u → tailOf s (f .«pitch_present») u ≡ value t v
     → sideOf s r ≡ value (record { head = h; flags = f; shape = x; tail = t }) v
 unfolding sideOf
 side-done s r h p f q x u t v e d i j = rw (e, d, i, j)

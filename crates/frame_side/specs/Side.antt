@@ -6,6 +6,7 @@ use Prim.Native.Nat.{ℕ, _+_, _-_, _*_}
 use lib.Dec.{ltb}
 use Rattle.frame_bits.specs.Read.{Read, value, cause, andThen}
 use Rattle.frame_bits.specs.Bits.{readBits}
+use Rattle.frame_settings.specs.Settings.{filtersOf}
 use Rattle.frame_settings.specs.declared.Setting.{Setting}
 use Rattle.frame_side.specs.declared.Head.{Head}
 use Rattle.frame_side.specs.declared.Flags.{Flags}
@@ -43,7 +44,7 @@ tailOf s pitch p =
 
 unfoldable pub sideOf : List ℕ → Setting → Read ℕ Side
 sideOf s r =
-    andThen (headOf s r) (λ h p. andThen (flagsOf s (r .filters) (h .bandwidth) p) (λ f p. andThen (shapeOf s p) (λ q p.
+    andThen (headOf s r) (λ h p. andThen (flagsOf s (filtersOf (r .duration)) (h .bandwidth) p) (λ f p. andThen (shapeOf s p) (λ q p.
     andThen (tailOf s (f .«pitch_present») p) (λ t p. value (record { head = h; flags = f; shape = q; tail = t }) p))))
 
 abbrev pub headGiven : HeadRead → Read ℕ Head

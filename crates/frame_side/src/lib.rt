@@ -9,6 +9,7 @@ ghost use Rattle.frame_side.specs.Side.{headOf, headGiven, secondFlag, s
 ghost use Rattle.frame_side.specs.Sound.{GoodHead, GoodFlags, GoodTail, GoodSide};
 use frame_bits::read_bits;
 use frame_settings::Setting;
+use frame_settings::tns_filters;
 pub use frame_shape::Shape;
 use frame_shape::ShapeRead;
 use frame_shape::read_shape;
@@ -152,7 +153,7 @@ pub fn read_side(s: &[u8], r: Setting) -> SideRead
     match read_head(s, r) {
         HeadRead::Cause(k) => SideRead::Cause(k),
         HeadRead::Value(head, p) => {
-            let f = read_flags(s, r.filters, wide(head.bandwidth), p);
+            let f = read_flags(s, tns_filters(r.duration), wide(head.bandwidth), p);
             let flags = f.flags;
             match read_shape(s, f.next) {
                 ShapeRead::Cause(k) => SideRead::Cause(k),

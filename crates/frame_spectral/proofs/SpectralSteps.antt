@@ -65,9 +65,9 @@ pairsAt s r h c p =
     (replicate 400 (pos 0)) (replicate 200 0)
 
 pub pairs-at : (s : List ℕ) (r : Setting) (h : Head) (c : Coder) (p : ℕ) (look cum : List ℕ) (lsb offset n : ℕ) (x : Read Streams Spectrum)
-    → look ≡ byContext lookTable → cum ≡ spectrumTable → lsb ≡ h .«lsb_mode» → offset ≡ rateOffset (r .offset) (length s)
+    → look ≡ byContext lookTable → cum ≡ spectrumTable → lsb ≡ h .«lsb_mode» → offset ≡ rateOffset (r .index) (length s)
     → n ≡ h .«last_line» / 2
-    → x ≡ pairsOf s (byLevel look) cum (record { lsb = lsb; offset = offset; half = r .half }) n 0 0 c p
+    → x ≡ pairsOf s (byLevel look) cum (record { lsb = lsb; offset = offset; half = r .lines / 2 }) n 0 0 c p
     (replicate 400 (pos 0)) (replicate 200 0)
     → pairsAt s r h c p ≡ x
 unfolding pairsAt

@@ -6,7 +6,7 @@ use lib.ListN.{length, take, replicate}
 use lib.IntN.{ℤ, pos}
 use Rattle.coder_tables.specs.Tables.{lookTable, spectrumTable}
 use Rattle.frame_bits.specs.Read.{Read, value, cause, andThen}
-use Rattle.frame_settings.specs.Settings.{rateOffset}
+use Rattle.frame_settings.specs.Settings.{rateOffset, halfOf}
 use Rattle.frame_pairs.specs.Pairs.{Spectrum, pairsOf}
 use Rattle.frame_residual.specs.Residual.{Residual, leftOf}
 use Rattle.frame_settings.specs.declared.Setting.{Setting}
@@ -25,7 +25,7 @@ pub record Spectral : Type 0 where
 
 -- what the pairs are read with
 abbrev pub pairSetting : Setting → ℕ → ℕ → PairSetting
-pairSetting r bytes lsb = record { lsb = lsb; offset = rateOffset (r .offset) bytes; half = r .half }
+pairSetting r bytes lsb = record { lsb = lsb; offset = rateOffset (r .index) bytes; half = halfOf r }
 
 abbrev pub spectralOf : List ℕ → Setting → Head → Spectrum → ℕ → ℕ → ℕ → Spectral
 spectralOf s r h x symbols p left =

@@ -52,8 +52,8 @@ pub fn read_spectral(
     let last = h.last_line as usize;
     let o = PairSetting {
         lsb,
-        offset: frame_settings::rate_offset(r.offset, frame.len()),
-        half: r.half,
+        offset: frame_settings::rate_offset(r.index, frame.len()),
+        half: r.lines / 2,
     };
     match frame_pairs::read_pairs(frame, &look, &cum, o, last / 2, c, p, &mut x, &mut levels) {
         PairsRead::Cause(k) => SpectralRead::Cause(k),

@@ -1,7 +1,7 @@
 -- `frame_settings::rate_offset` meets its contract. Assumes nothing.
 use native.Mathlib.Omega.{arith}
-use borrow.Author.Needs.{needs}
 use borrow.Author.Tests.{lt-ltb, le-ltb}
+use borrow.Author.Needs.{needs}
 use Rattle.frame_settings.proofs.rate_offset.Statement.{statement}
 use Rattle.frame_settings.proofs.rate_offset.Tie as tie
 
@@ -15,4 +15,4 @@ pub rate-offset-spec : {M : Type 1} → statement M
 rate-offset-spec =
     tie.close
     (tie.spec
-    (λ c. search needs) returns returns-2)
+    (λ c. search needs) (λ c. search needs) (λ c. search needs) returns returns-2)

@@ -19,10 +19,6 @@ at-bandwidth c = c .before .before .before
 last-pair-below : (c : tie.After-read-bits2) → c .read-bits2 .result .value < 256
 last-pair-below c = in-more _ _ 8 (c .read-bits2 .ensures .below) (start (at-bandwidth c) .pre .0 .pair)
 
--- the bandwidth has at most three bits
-bandwidth-below : (c : tie.After-read-bits) → c .read-bits .result .value < 8
-bandwidth-below c = in-more _ _ 3 (c .read-bits .ensures .below) (start c .pre .0 .bandwidth)
-
 returns : tie.Need-returns
 returns c = (sym (head-wide _ _ _ (c .before .before .read-bits .ensures) (c .if1 .taken)), (omega arith, omega arith))
 
@@ -37,9 +33,6 @@ returns-2 c =
     let g = c .before .before in
     let e = at-bandwidth g .read-bits .ensures in
     (sym (head-long _ _ _ e (g .before .if1 .left) _ (g .read-bits2 .ensures) (c .if2 .taken)), (omega arith, omega arith))
-
-cast-t12 : tie.Need-cast-t12
-cast-t12 c = let f = bandwidth-below (at-bandwidth (c .before .before .before .before .before)) in omega (arith, f)
 
 returns-3 : tie.Need-returns-3
 returns-3 c =
@@ -66,5 +59,5 @@ read-head-spec =
     tie.close
     (tie.spec
     (λ c κs. search needs) returns (λ c κs. search needs) add-last-line mul-last-line returns-2
-    (λ c κs. search needs) (λ c κs. search needs) cast-t12 (λ c. search needs) (λ c. search needs)
+    (λ c κs. search needs) (λ c κs. search needs) (λ c. search needs) (λ c. search needs) (λ c. search needs)
     (λ c. search needs) returns-3)

@@ -4,6 +4,7 @@ use native.Mathlib.Omega.{arith}
 use denote.Ref.{now}
 use borrow.Author.Needs.{needs}
 use Rattle.frame_bits.specs.Read.{value}
+use Rattle.frame_settings.specs.Settings.{filtersOf}
 use Rattle.frame_side.specs.Side.{headOf}
 use Rattle.frame_shape.specs.Shape.{shapeOf}
 use Rattle.frame_side.specs.Sound.{GoodHead, GoodFlags}
@@ -19,7 +20,7 @@ abbrev start : tie.After-head → tie.Start
 start c = c .before .before .before .before
 
 abbrev to-head : tie.After-read-flags → tie.After-head
-to-head c = c .before .before .before
+to-head c = c .before .before .before .before
 
 abbrev to-flags : tie.After-shape → tie.After-read-flags
 to-flags c = c .before .before .before .before
@@ -32,8 +33,8 @@ head-good c = rw (c .head .given .1) at (c .before .before .read-head .ensures .
 
 flags-good :
     (c : tie.After-read-flags) → let h = to-head c in let g = h .head .given .0 in
-    GoodFlags (now (start h .args .s)) (start h .args .r .filters) (g .0 .bandwidth) (g .1 .0) (c .read-flags .result)
-flags-good c = rw (c .before .wide .ensures .0) at (c .read-flags .ensures)
+    GoodFlags (now (start h .args .s)) (filtersOf (start h .args .r .duration)) (g .0 .bandwidth) (g .1 .0) (c .read-flags .result)
+flags-good c = rw (c .before .wide .ensures .0, c .before .before .tns-filters .ensures .0) at (c .read-flags .ensures)
 
 shape-is :
     (c : tie.After-shape) → let f = to-flags c in let g = c .shape .given .0 in
@@ -45,8 +46,10 @@ shape-good : (c : tie.After-shape)
 shape-good c = rw (c .shape .given .1) at (c .before .before .read-shape .ensures .1)
 
 read-flags-requires : tie.Need-read-flags-requires
-read-flags-requires c κs = let h = c .before .before in let k = start h .pre .0 in
-    (k .filter, (k .filters, (head-good h .1, start h .pre .1)))
+read-flags-requires c κs =
+    let f = c .before .tns-filters .ensures .1 in
+    let h = c .before .before .before in
+    (f .0, (f .1, (head-good h .1, start h .pre .1)))
 
 read-shape-requires : tie.Need-read-shape-requires
 read-shape-requires c κs =
@@ -95,6 +98,7 @@ pub read-side-spec : {M : Type 1} → statement M
 read-side-spec =
     tie.close
     (tie.spec
-    (λ c κs. search needs) (λ c. search needs) (λ c. search needs) (λ c κs. search needs) read-flags-requires
+    (λ c κs. search needs) (λ c. search needs) (λ c. search needs) (λ c κs. search needs)
+    (λ c κs. search needs) read-flags-requires
     read-shape-requires (λ c. search needs) (λ c. search needs) (λ c κs. search needs) read-tail-requires
     returns returns-2 returns-3)

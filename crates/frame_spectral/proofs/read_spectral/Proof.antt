@@ -19,14 +19,14 @@ abbrev entry : tie.After-rate-offset → tie.Start
 entry o = o .before .before .before .before .before .before .before
 
 abbrev offset : tie.After-read-pairs → tie.After-rate-offset
-offset a = a .before .before .before .before .before
+offset a = a .before .before .before .before .before .before
 
 abbrev pairs : tie.After-known-told2 → tie.After-read-pairs
 pairs b = b .before .before .before .before .before
 
 read-pairs-requires : tie.Need-read-pairs-requires
 read-pairs-requires c κs =
-    let o = c .before .before .before .before in
+    let o = c .before .before .before .before .before in
     let z = entry o .pre in
     let w = o .before .before .wide .ensures .0 in
     let l = o .before .before .before .before .lookup .ensures in (
