@@ -69,6 +69,7 @@ module _ (khz q : ℕ) (s : List ℕ) (x b : ℕ) where
     judged-known l h = rw (e, le-leb 20 (length s) l, le-leb (length s) 400 h)
 
 -- the causes that can arise there
-pub causes-known : (khz q : ℕ) (r : Setting) → settingOf khz q ≡ settled.Known r → lastCauseOf (settingOf khz q) ≡ lastCause (orderOf (r .duration))
+pub causes-known : (khz q : ℕ) (r : Setting) → settingOf khz q ≡ settled.Known r
+    → lastCauseOf (settingOf khz q) ≡ lastCause (orderOf (r .duration))
 unfolding lastCauseOf
 causes-known khz q r e = rw e

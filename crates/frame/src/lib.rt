@@ -1,4 +1,4 @@
-// One LC3plus frame of 2.5, 5, 7.5 or 10 ms read into its fields (clause 5.4.2 of ETSI TS 103 634), over the tables of crate `coder_tables`.
+// One LC3plus frame of 2.5, 5, 7.5 or 10 ms read into its fields (clause 5.4.2 of ETSI TS 103 634), over the tables of `coder_tables`.
 // Promised for every input: the answer and both lent buffers are those of the clause's own walk in specs/Frame.antt, or document 01's 1, 2
 // or 5 with the first cause in reading order; a refusal leaves both buffers as lent. Values lie in -32,767 to 32,767, symbols are at most
 // 18 + 7 x last line.

@@ -5,17 +5,16 @@ use mathlib.Core.Path.{_≡_, refl, sym, ap, _∙_}
 use mathlib.Core.List.{List}
 use Prim.Native.Nat.{ℕ, _+_, _*_, _≤_, _<_}
 use native.Mathlib.Omega.{arith}
-use lib.ListN.{length}
 use lib.IntN.{ℤ}
 use Rattle.coder_tables.specs.Tables.{orderTable, coefficientTable}
 use Rattle.coder_tables.proofs.Rules.{order-row, coefficient-row}
 use Rattle.frame_bits.specs.Read.{Read, value, cause}
-use Rattle.frame_settings.specs.Settings.{orderOf, weighting, lastCause}
+use Rattle.frame_settings.specs.Settings.{orderOf, lastCause}
 use Rattle.frame_settings.proofs.TenMs.{least-causes}
 use Rattle.frame_coder.specs.Symbol.{startOf}
 use Rattle.frame_tns.specs.Tns.{Filter, filterOf, filterGiven, unused}
 use Rattle.frame_spectral.specs.Spectral.{Spectral, spectralFrom, spectralGiven}
-use Rattle.frame_arithmetic.specs.Answers.{Whole, tnsOf, arithmeticFrom}
+use Rattle.frame_arithmetic.specs.Answers.{Whole, arithmeticFrom}
 use Rattle.frame_arithmetic.specs.Answers.{Judged, refused, judgedRead, givenOf, Answers}
 use Rattle.frame_answers.specs.Answers.{Given, refusedWith, answered, told}
 use Rattle.frame_pairs.specs.Sound.{Small}
@@ -40,18 +39,20 @@ tns-tables orders rows e f = rw (e, f) (record { order = order-row; coefficient 
 
 -- ---- the arithmetic stream
 
-pub tns-at : (s : List ℕ) (r : Setting) (flag : ℕ) (c : Coder) (orders rows : List ℕ) (w highest : ℕ) (x : Read Coder Filter)
-    → orders ≡ orderTable → rows ≡ coefficientTable → w ≡ weighting (r .duration) (length s) → highest ≡ orderOf (r .duration)
-    → x ≡ filterOf s orders rows w highest flag c → tnsOf s r flag c ≡ x
-unfolding tnsOf
-tns-at s r flag c orders rows w highest x e f l m q = sym (rw (e, f, l, m) at q)
-
 -- what the two filters' data are
 abbrev pub First : List ℕ → Setting → Side → Read Coder Filter → Type 0
-First s r v x = tnsOf s r (v .flags .«tns_0») (startOf s) ≡ x
+First s r v x = filterOf s orderTable coefficientTable (r .duration) (v .flags .«tns_0») (startOf s) ≡ x
 
 abbrev pub Second : List ℕ → Setting → Side → Coder → Read Coder Filter → Type 0
-Second s r v c x = tnsOf s r (v .flags .«tns_1») c ≡ x
+Second s r v c x = filterOf s orderTable coefficientTable (r .duration) (v .flags .«tns_1») c ≡ x
+
+module _ (s : List ℕ) (r : Setting) (v : Side) (c : Coder) (orders rows : List ℕ) (x : Read Coder Filter) (e : orders ≡ orderTable)
+    (f : rows ≡ coefficientTable) where
+  pub first-at : c ≡ startOf s → x ≡ filterOf s orders rows (r .duration) (v .flags .«tns_0») c → First s r v x
+  first-at o q = sym (rw (e, f, o) at q)
+
+  pub second-at : x ≡ filterOf s orders rows (r .duration) (v .flags .«tns_1») c → Second s r v c x
+  second-at q = sym (rw (e, f) at q)
 
 pub arithmetic-first : (s : List ℕ) (r : Setting) (v : Side) (p k : ℕ) → First s r v (cause k) → arithmeticFrom s r v p ≡ cause k
 unfolding arithmeticFrom
@@ -81,22 +82,23 @@ start-taken s c e = ap (λ (x : Coder). x .taken) e
 abbrev pub Possible : Setting → ℕ → Type 0
 Possible r k = (1 ≤ k) × (k ≤ lastCause (orderOf (r .duration)))
 
-filter-cause : (s : List ℕ) (r : Setting) (highest : ℕ) (c : Coder) (g : FilterRead) (k : ℕ) → highest ≡ orderOf (r .duration)
-    → g ≡ filter.Cause k → GoodFilter s highest c g → Possible r k
-filter-cause s r highest c g k m i a =
-    let b : GoodFilter s (orderOf (r .duration)) c (filter.Cause k) = rw (m, i) at a in
+filter-cause : (s : List ℕ) (r : Setting) (c : Coder) (g : FilterRead) (k : ℕ) → g ≡ filter.Cause k → GoodFilter s (r .duration) c g
+    → Possible r k
+filter-cause s r c g k i a =
+    let b : GoodFilter s (r .duration) c (filter.Cause k) = rw i at a in
     (omega (arith, b .0), b .1)
 
 -- the three refusals: g is what was answered, k its cause
-module _ (s : List ℕ) (r : Setting) (v : Side) (p highest : ℕ) (m : highest ≡ orderOf (r .duration)) where
-  pub first-refused : (c : Coder) (g : FilterRead) (l : List ℕ) (k : ℕ) → First s r v (filterGiven g l) → g ≡ filter.Cause k
-      → GoodFilter s highest c g → (arithmeticFrom s r v p ≡ cause k) × Possible r k
-  first-refused c g l k f i a = (arithmetic-first s r v p k (rw i at f), filter-cause s r highest c g k m i a)
+pub first-refused :
+    (s : List ℕ) (r : Setting) (v : Side) (p : ℕ) (c : Coder) (g : FilterRead) (l : List ℕ) (k : ℕ) → First s r v (filterGiven g l)
+    → g ≡ filter.Cause k → GoodFilter s (r .duration) c g → (arithmeticFrom s r v p ≡ cause k) × Possible r k
+first-refused s r v p c g l k f i a = (arithmetic-first s r v p k (rw i at f), filter-cause s r c g k i a)
 
-  pub second-refused : (o : Filter) (c : Coder) (g : FilterRead) (l : List ℕ) (k : ℕ) → First s r v (value o c)
-      → Second s r v c (filterGiven g l) → g ≡ filter.Cause k → GoodFilter s highest c g
-      → (arithmeticFrom s r v p ≡ cause k) × Possible r k
-  second-refused o c g l k h f i a = (arithmetic-second s r v p k o c h (rw i at f), filter-cause s r highest c g k m i a)
+pub second-refused :
+    (s : List ℕ) (r : Setting) (v : Side) (p : ℕ) (o : Filter) (c : Coder) (g : FilterRead) (l : List ℕ) (k : ℕ)
+    → First s r v (value o c) → Second s r v c (filterGiven g l) → g ≡ filter.Cause k → GoodFilter s (r .duration) c g
+    → (arithmeticFrom s r v p ≡ cause k) × Possible r k
+second-refused s r v p o c g l k h f i a = (arithmetic-second s r v p k o c h (rw i at f), filter-cause s r c g k i a)
 
 pub third-refused :
     (s : List ℕ) (r : Setting) (v : Side) (p : ℕ) (o u : Filter) (c d : Coder) (g : SpectralRead) (lines : List ℤ) (bits : List ℕ)
@@ -152,8 +154,8 @@ pub answers-cause : (r : Setting) (o : Reading) (x : Read ℕ Whole) (k : ℕ) (
     → spectrum′ ≡ spectrum → residual′ ≡ residual → Possible r k
     → Answered (lastCause (orderOf (r .duration))) o (judgedRead x) spectrum spectrum′ residual residual′
 answers-cause r o x k spectrum spectrum′ residual residual′ e f a b h = rw (a, b)
-    (answers-refused (lastCause (orderOf (r .duration))) (told o) (judgedRead x) 5 k spectrum residual (ap told e) (ap judgedRead f) (omega arith)
-    (λ z. h .0) (h .1))
+    (answers-refused (lastCause (orderOf (r .duration))) (told o) (judgedRead x) 5 k spectrum residual (ap told e) (ap judgedRead f)
+    (omega arith) (λ z. h .0) (h .1))
 
 pub answers-value : (most : ℕ) (x : Read ℕ Whole) (v : Side) (f g : Filter) (y : Spectral) (q : ℕ) (spectrum : List ℤ) (residual : List ℕ)
     → x ≡ value (record { side = v; first = f; second = g; spectral = y }) q

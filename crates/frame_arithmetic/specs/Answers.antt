@@ -3,14 +3,11 @@
 use mathlib.Core.Path.{_≡_}
 use mathlib.Core.List.{List}
 use Prim.Native.Nat.{ℕ}
-use lib.ListN.{length}
 use lib.IntN.{ℤ}
 use Rattle.coder_tables.specs.Tables.{orderTable, coefficientTable}
 use Rattle.frame_bits.specs.Read.{Read, value, cause, andThen}
-use Rattle.frame_settings.specs.Settings.{orderOf, weighting}
 use Rattle.frame_coder.specs.Symbol.{startOf}
 use Rattle.frame_tns.specs.Tns.{Filter, filterOf}
-use Rattle.frame_coder.specs.declared.Coder.{Coder}
 use Rattle.frame_settings.specs.declared.Setting.{Setting}
 use Rattle.frame_side.specs.declared.Side.{Side}
 use Rattle.frame_answers.specs.declared.Fields.{Fields}
@@ -24,14 +21,11 @@ pub record Whole : Type 0 where
   pub second : Filter
   pub spectral : Spectral
 
--- one filter's TNS data, by its flag
-unfoldable pub tnsOf : List ℕ → Setting → ℕ → Coder → Read Coder Filter
-tnsOf s r flag c = filterOf s orderTable coefficientTable (weighting (r .duration) (length s)) (orderOf (r .duration)) flag c
-
 -- the arithmetic stream: the two filters' TNS data, then the pairs
 unfoldable pub arithmeticFrom : List ℕ → Setting → Side → ℕ → Read ℕ Whole
 arithmeticFrom s r v p =
-    andThen (tnsOf s r (v .flags .«tns_0») (startOf s)) (λ f c. andThen (tnsOf s r (v .flags .«tns_1») c) (λ g c.
+    andThen (filterOf s orderTable coefficientTable (r .duration) (v .flags .«tns_0») (startOf s)) (λ f c.
+    andThen (filterOf s orderTable coefficientTable (r .duration) (v .flags .«tns_1») c) (λ g c.
     andThen (spectralFrom s r (v .head) c p) (λ x p. value (record { side = v; first = f; second = g; spectral = x }) p)))
 
 -- accepted; or refused, with document 01's number and the cause

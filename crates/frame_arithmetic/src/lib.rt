@@ -40,33 +40,14 @@ pub fn read_arithmetic(
 {
     let orders = coder_tables::tns_order();
     let rows = coder_tables::tns_coefficients();
-    let w = frame_settings::tns_weighting(r.duration, frame.len());
+    let q = r.duration;
     let f = v.flags;
-    let highest = frame_settings::highest_order(r.duration);
     let mut first = [0u8; 8];
     let mut second = [0u8; 8];
     let start = frame_coder::start(frame);
-    match filter(
-        frame,
-        &orders,
-        &rows,
-        w,
-        highest,
-        f.tns_0,
-        &mut first,
-        start,
-    ) {
+    match filter(frame, &orders, &rows, q, f.tns_0, &mut first, start) {
         FilterRead::Cause(k) => refused(Answer::BitError(k)),
-        FilterRead::Value(m, c) => match filter(
-            frame,
-            &orders,
-            &rows,
-            w,
-            highest,
-            f.tns_1,
-            &mut second,
-            c,
-        ) {
+        FilterRead::Value(m, c) => match filter(frame, &orders, &rows, q, f.tns_1, &mut second, c) {
             FilterRead::Cause(k) => refused(Answer::BitError(k)),
             FilterRead::Value(n, d) => match read_spectral(
                 r,

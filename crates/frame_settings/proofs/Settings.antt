@@ -1,5 +1,5 @@
 -- The settings: a rate and a duration that the code names are those of the definition, and one computed test over all twenty settings gives
--- what the reader uses of one.
+-- what the reader uses of one, and that its lines are those of formula 7.
 -- Assumes nothing.
 use mathlib.Core.Path.{_≡_, refl, subst, sym, ap, _∙_}
 use mathlib.Core.Bool.{Bool, true, false, cond}
@@ -109,8 +109,12 @@ numbers r = both (leb (r .index) 4) (leb (r .duration) 40)
 abbrev sound : Setting → Bool
 sound r = both (sizes r) (both (widths r) (numbers r))
 
+-- formula 7
+abbrev byFormula : ℕ → Rate → Bool
+byFormula q x = eqb (2 * (q * (x .index + 1))) (linesOf (x .khz) q)
+
 abbrev soundAt : ℕ → Rate → Bool
-soundAt q x = sound (setting (x .index) (x .bandwidth) q)
+soundAt q x = both (sound (setting (x .index) (x .bandwidth) q)) (byFormula q x)
 
 abbrev Sound : Settled → Type 0
 Sound (settled.Known r) = T (sound r)
@@ -136,19 +140,21 @@ rate-index khz index bandwidth e =
     let f : Rate → Bool = λ x. leb (x .index) 4 in
     leb→le index 4 (subst (Passed f) (sym e) (found-passed rates f tt khz))
 
+-- the one computed test
+all-sound : (khz q : ℕ) → T (listed durations q) → Passed (soundAt q) (rateIn rates khz)
+all-sound khz q l = found-passed rates (soundAt q) (at-listed durations (λ d. everyOf rates (soundAt d)) tt q l) khz
+
 sound-for : (o : Option Rate) (q : ℕ) → (T (listed durations q) → Passed (soundAt q) o) → Sound (settingFor o q)
 sound-for none q p = tt
 sound-for (some x) q p = go (listed durations q) p
   where
     go : (b : Bool) → (T b → T (soundAt q x)) → Sound (cond b (settled.Known (setting (x .index) (x .bandwidth) q)) settled.Unknown)
-    go true h = h tt
+    go true h = both-left (sound (setting (x .index) (x .bandwidth) q)) (byFormula q x) (h tt)
     go false h = tt
 
 sound-setting : (khz q : ℕ) → Sound (settingOf khz q)
 unfolding settingOf
-sound-setting khz q =
-    sound-for (rateIn rates khz) q
-    (λ l. found-passed rates (soundAt q) (at-listed durations (λ d. everyOf rates (soundAt d)) tt q l) khz)
+sound-setting khz q = sound-for (rateIn rates khz) q (all-sound khz q)
 
 module _ (r : Setting) (t : T (sound r)) where
   size : T (both (ltb 0 (r .lines)) (leb (r .lines) 400))
@@ -228,29 +234,26 @@ found-keyed : (xs : List Rate) (khz : ℕ) → Keyed khz (rateIn xs khz)
 found-keyed [] khz = tt
 found-keyed (x ∷ xs) khz = keyed-first khz x (eqb khz (x .khz)) (rateIn xs khz) refl (found-keyed xs khz)
 
-abbrev byFormula : ℕ → Rate → Bool
-byFormula q x = eqb (2 * (q * (x .index + 1))) (linesOf (x .khz) q)
-
 -- n lines, where there is a setting
 abbrev Lines : ℕ → Settled → Type 0
 Lines n (settled.Known r) = r .lines ≡ n
 Lines n settled.Unknown = Unit {0}
 
-formula-for : (khz q : ℕ) (o : Option Rate) → Keyed khz o → (T (listed durations q) → Passed (byFormula q) o)
+formula-for : (khz q : ℕ) (o : Option Rate) → Keyed khz o → (T (listed durations q) → Passed (soundAt q) o)
     → Lines (linesOf khz q) (settingFor o q)
 formula-for khz q none k p = tt
 formula-for khz q (some x) k p = rw k (go (listed durations q) p)
   where
-    go : (b : Bool) → (T b → T (byFormula q x))
+    go : (b : Bool) → (T b → T (soundAt q x))
         → Lines (linesOf (x .khz) q) (cond b (settled.Known (setting (x .index) (x .bandwidth) q)) settled.Unknown)
-    go true h = eqb→eq (2 * (q * (x .index + 1))) (linesOf (x .khz) q) (h tt)
+    go true h =
+        eqb→eq (2 * (q * (x .index + 1))) (linesOf (x .khz) q)
+        (both-right (sound (setting (x .index) (x .bandwidth) q)) (byFormula q x) (h tt))
     go false h = tt
 
 formula-7 : (khz q : ℕ) → Lines (linesOf khz q) (settingOf khz q)
 unfolding settingOf
-formula-7 khz q =
-    formula-for khz q (rateIn rates khz) (found-keyed rates khz)
-    (λ l. found-passed rates (byFormula q) (at-listed durations (λ d. everyOf rates (byFormula d)) tt q l) khz)
+formula-7 khz q = formula-for khz q (rateIn rates khz) (found-keyed rates khz) (all-sound khz q)
 
 pub by-formula-7 : (khz q : ℕ) (r : Setting) → settingOf khz q ≡ settled.Known r → r .lines ≡ linesOf khz q
 by-formula-7 khz q r e = subst (Lines (linesOf khz q)) e (formula-7 khz q)

@@ -64,11 +64,12 @@ abbrev pub listed : List ℕ → ℕ → Bool
 listed [] q = false
 listed (x ∷ xs) q = cond (eqb q x) true (listed xs q)
 
+-- of a rate that was found or not, and a duration
 abbrev pub settingFor : Option Rate → ℕ → Settled
 settingFor none q = settled.Unknown
 settingFor (some x) q = cond (listed durations q) (settled.Known (setting (x .index) (x .bandwidth) q)) settled.Unknown
 
--- of a rate and a duration; none where one of them is out of range
+-- the setting of a rate and a duration; none where one of them is out of range
 unfoldable pub settingOf : ℕ → ℕ → Settled
 settingOf khz q = settingFor (rateIn rates khz) q
 

@@ -37,7 +37,8 @@ module _ (s : List ℕ) (r : Setting) (b : Field) (e : GoodField s 0 (r .bandwid
 -- m is the setting's filters, n the bits of the second filter's flag
 pub flags-done :
     (s : List ℕ) (m w p n : ℕ) (a b f : Field) → n ≡ secondFlag m w → GoodField s p 1 a → GoodField s (a .next) n b
-    → GoodField s (b .next) 1 f → flagsOf s m w p ≡ value (record { «tns_0» = a .value; «tns_1» = b .value; «pitch_present» = f .value }) (f .next)
+    → GoodField s (b .next) 1 f
+    → flagsOf s m w p ≡ value (record { «tns_0» = a .value; «tns_1» = b .value; «pitch_present» = f .value }) (f .next)
 unfolding flagsOf
 flags-done s m w p n a b f k e d i = let j = rw k at (d .found) in rw (e .found, j, i .found)
 
@@ -60,7 +61,8 @@ side-shape s r h p f q k e d i = rw (e, d, i)
 
 pub side-done :
     (s : List ℕ) (r : Setting) (h : Head) (p : ℕ) (f : Flags) (q : ℕ) (x : Shape) (u : ℕ) (t : Tail) (v : ℕ) → headOf s r ≡ value h p
-    → flagsOf s (filtersOf (r .duration)) (h .bandwidth) p ≡ value f q → shapeOf s q ≡ value x u → tailOf s (f .«pitch_present») u ≡ value t v
+    → flagsOf s (filtersOf (r .duration)) (h .bandwidth) p ≡ value f q → shapeOf s q ≡ value x u
+    → tailOf s (f .«pitch_present») u ≡ value t v
     → sideOf s r ≡ value (record { head = h; flags = f; shape = x; tail = t }) v
 unfolding sideOf
 side-done s r h p f q x u t v e d i j = rw (e, d, i, j)

@@ -3,9 +3,10 @@ use mathlib.Core.Path.{_≡_}
 use mathlib.Core.List.{List}
 use Prim.Native.Nat.{ℕ, suc, _+_, _-_, _*_, _≤_, _<_}
 use native.Mathlib.Omega.{arith}
-use lib.ListN.{set}
+use lib.ListN.{length, set}
 use borrow.Author.Tests.{eq-eqb, ne-eqb, lt-ltb, le-ltb}
-use Rattle.frame_bits.specs.Read.{value, cause}
+use Rattle.frame_bits.specs.Read.{Read, value, cause, andThen}
+use Rattle.frame_settings.specs.Settings.{orderOf, weighting}
 use Rattle.frame_coder.specs.Symbol.{symbolOf}
 use Rattle.frame_tns.specs.Tns.{unused, coefficientsOf, sentOf, filterOf}
 use Rattle.frame_coder.specs.declared.Coder.{Coder}
@@ -35,33 +36,36 @@ coefficients-more s rows n k l c d v h e =
 
 -- ---- a filter: not sent, no order, an order above the highest, no coefficients, whole
 
-module _ (s orders rows : List ℕ) (w highest flag : ℕ) (c : Coder) where
-  pub filter-unused : flag ≡ 0 → filterOf s orders rows w highest flag c ≡ value (record { order = 0; coefficients = unused }) c
+module _ (s orders rows : List ℕ) (q flag : ℕ) (c : Coder) where
+  pub filter-unused : flag ≡ 0 → filterOf s orders rows q flag c ≡ value (record { order = 0; coefficients = unused }) c
   unfolding filterOf
   filter-unused h = rw (eq-eqb flag 0 h)
 
-  pub no-order : (x : ℕ) → (flag ≡ 0 → ⊥) → symbolOf s orders (w * 9) 7 c ≡ cause x → filterOf s orders rows w highest flag c ≡ cause x
+  -- the order's symbol
+  abbrev Order : Read Coder ℕ → Type 0
+  Order x = symbolOf s orders (weighting q (length s) * 9) 7 c ≡ x
+
+  pub no-order : (x : ℕ) → (flag ≡ 0 → ⊥) → Order (cause x) → filterOf s orders rows q flag c ≡ cause x
   unfolding filterOf sentOf
   no-order x h e = rw (ne-eqb flag 0 h, e)
 
-  -- the order's symbol v was taken
-  module _ (h : flag ≡ 0 → ⊥) (d : Coder) (v : ℕ) (e : symbolOf s orders (w * 9) 7 c ≡ value v d) where
-    pub order-above : highest < v + 1 → filterOf s orders rows w highest flag c ≡ cause 8
+  module _ (h : flag ≡ 0 → ⊥) (d : Coder) (v : ℕ) (e : Order (value v d)) where
+    pub order-above : orderOf q < v + 1 → filterOf s orders rows q flag c ≡ cause 8
     unfolding filterOf sentOf
-    order-above l = let m : highest < suc v = omega arith in rw (ne-eqb flag 0 h, e, lt-ltb highest (suc v) m)
+    order-above l = let m : orderOf q < suc v = omega arith in rw (ne-eqb flag 0 h, e, lt-ltb (orderOf q) (suc v) m)
 
-    module _ (l : v + 1 ≤ highest) where
-      pub no-coefficients : (x : ℕ) → coefficientsOf s rows (v + 1) 0 unused d ≡ cause x → filterOf s orders rows w highest flag c ≡ cause x
+    module _ (l : v + 1 ≤ orderOf q) where
+      taken : filterOf s orders rows q flag c
+          ≡ andThen (coefficientsOf s rows (v + 1) 0 unused d) (λ k z. value (record { order = v + 1; coefficients = k }) z)
       unfolding filterOf sentOf
-      no-coefficients x f =
-          let q : v + 1 ≡ suc v = omega arith in
-          let m : suc v ≤ highest = omega arith in
-          rw (ne-eqb flag 0 h, e, le-ltb highest (suc v) m, ← q, f)
+      taken =
+          let i : v + 1 ≡ suc v = omega arith in
+          let m : suc v ≤ orderOf q = omega arith in
+          rw (ne-eqb flag 0 h, e, le-ltb (orderOf q) (suc v) m, ← i)
+
+      pub no-coefficients : (x : ℕ) → coefficientsOf s rows (v + 1) 0 unused d ≡ cause x → filterOf s orders rows q flag c ≡ cause x
+      no-coefficients x f = rw f at taken
 
       pub filter-whole : (k : List ℕ) (z : Coder) → coefficientsOf s rows (v + 1) 0 unused d ≡ value k z
-          → filterOf s orders rows w highest flag c ≡ value (record { order = v + 1; coefficients = k }) z
-      unfolding filterOf sentOf
-      filter-whole k z f =
-          let q : v + 1 ≡ suc v = omega arith in
-          let m : suc v ≤ highest = omega arith in
-          rw (ne-eqb flag 0 h, e, le-ltb highest (suc v) m, ← q, f)
+          → filterOf s orders rows q flag c ≡ value (record { order = v + 1; coefficients = k }) z
+      filter-whole k z f = rw f at taken

@@ -10,7 +10,7 @@ use Rattle.frame_tns.specs.declared.FilterRead.the-variants as filter
 use Rattle.frame_tns.specs.declared.CoefficientsRead.{CoefficientsRead}
 use Rattle.frame_tns.specs.declared.CoefficientsRead.the-variants as coefficients
 use Rattle.frame_coder.specs.Sound.{Sound}
-use Rattle.frame_settings.specs.Settings.{lastCause}
+use Rattle.frame_settings.specs.Settings.{orderOf, lastCause}
 
 -- what the TNS tables have to be: two rows of orders, eight rows of coefficients
 abbrev pub CoefficientRows : List ℕ → Type 0
@@ -25,5 +25,5 @@ GoodCoefficients s n c (coefficients.Value d) = (d .taken ≡ c .taken + n) × S
 GoodCoefficients s n c (coefficients.Cause k) = (4 ≤ k) × (k ≤ 6)
 
 abbrev pub GoodFilter : List ℕ → ℕ → Coder → FilterRead → Type 0
-GoodFilter s highest c (filter.Value n d) = (n ≤ 8) × (d .taken ≤ c .taken + 9) × Sound s d
-GoodFilter s highest c (filter.Cause k) = (4 ≤ k) × (k ≤ lastCause highest)
+GoodFilter s q c (filter.Value n d) = (n ≤ 8) × (d .taken ≤ c .taken + 9) × Sound s d
+GoodFilter s q c (filter.Cause k) = (4 ≤ k) × (k ≤ lastCause (orderOf q))

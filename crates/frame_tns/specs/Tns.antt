@@ -3,8 +3,9 @@ use mathlib.Core.Bool.{cond}
 use mathlib.Core.List.{List, [], _∷_}
 use Prim.Native.Nat.{ℕ, zero, suc, _*_}
 use lib.Dec.{ltb, eqb}
-use lib.ListN.{set}
+use lib.ListN.{length, set}
 use Rattle.frame_bits.specs.Read.{Read, value, cause, andThen}
+use Rattle.frame_settings.specs.Settings.{orderOf, weighting}
 use Rattle.frame_coder.specs.Symbol.{symbolOf}
 use Rattle.frame_coder.specs.declared.Coder.{Coder}
 use Rattle.frame_tns.specs.declared.FilterRead.{FilterRead}
@@ -27,15 +28,17 @@ coefficientsOf s rows zero k l c = value l c
 coefficientsOf s rows (suc n) k l c =
     andThen (symbolOf s rows (k * 18) 16 c) (λ v c. coefficientsOf s rows n (suc k) (set l k v) c)
 
--- a filter that is sent: the order is 1 + a symbol (0 .. 7) of row w of the orders (cause 8: order above the highest), then its coefficients
-unfoldable pub sentOf : List ℕ → List ℕ → List ℕ → ℕ → ℕ → Coder → Read Coder Filter
-sentOf s orders rows w highest c =
-    andThen (symbolOf s orders (w * 9) 7 c) (λ v c. cond (ltb highest (suc v)) (cause 8)
+-- a filter that is sent: the order is 1 + a symbol (0 .. 7) of the weighting's row of the orders (cause 8: order above the highest), then
+-- its coefficients
+unfoldable pub sentOf : List ℕ → List ℕ → List ℕ → ℕ → Coder → Read Coder Filter
+sentOf s orders rows q c =
+    andThen (symbolOf s orders (weighting q (length s) * 9) 7 c) (λ v c. cond (ltb (orderOf q) (suc v)) (cause 8)
     (andThen (coefficientsOf s rows (suc v) 0 unused c) (λ l c. value (record { order = suc v; coefficients = l }) c)))
 
-unfoldable pub filterOf : List ℕ → List ℕ → List ℕ → ℕ → ℕ → ℕ → Coder → Read Coder Filter
-filterOf s orders rows w highest flag c =
-    cond (eqb flag 0) (value (record { order = 0; coefficients = unused }) c) (sentOf s orders rows w highest c)
+-- by the duration and the filter's flag
+unfoldable pub filterOf : List ℕ → List ℕ → List ℕ → ℕ → ℕ → Coder → Read Coder Filter
+filterOf s orders rows q flag c =
+    cond (eqb flag 0) (value (record { order = 0; coefficients = unused }) c) (sentOf s orders rows q c)
 
 -- the answers, with the coefficients in the list lent
 abbrev pub coefficientsGiven : CoefficientsRead → List ℕ → Read Coder (List ℕ)

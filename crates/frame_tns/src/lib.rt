@@ -1,6 +1,6 @@
 // The TNS data (5.4.2.7): a filter's order and coefficients. Each function equals its definition in specs/Tns.antt.
-// Inner: `frame_answers` cites it, `frame_arithmetic` stands over it. It asks for a frame of 20 to 400 bytes, for the TNS tables, for room
-// of zeros and for a cursor of `frame_coder`.
+// Inner: `frame_answers` cites it, `frame_arithmetic` stands over it. It asks for a frame of 20 to 400 bytes and a setting's duration, for
+// the TNS tables, for room of zeros and for a cursor of `frame_coder`.
 ghost use mathlib.Core.Path.{_≡_};
 ghost use Prim.Native.Nat.{_≤_, _<_};
 ghost use lib.ListN.{length};
@@ -10,6 +10,8 @@ ghost use Rattle.frame_tns.specs.Sound.{CoefficientRows, TnsTables, Good
 use frame_coder::Coder;
 use frame_coder::Symbol;
 use frame_coder::decode;
+use frame_settings::highest_order;
+use frame_settings::tns_weighting;
 
 // The next cursor, or the cause of a bit error; the coefficients stand in the lent slice.
 pub enum CoefficientsRead {
@@ -55,30 +57,30 @@ pub fn filter(
     s: &[u8],
     orders: &[u16],
     rows: &[u16],
-    w: usize,
-    highest: usize,
+    duration: usize,
     flag: u8,
     out: &mut [u8],
     c: Coder,
 ) -> FilterRead
     requires { ⌜ Ready (now s) c 16384 ⌝ }
     requires { ⌜ TnsTables (now orders) (now rows) ⌝ }
-    requires { ⌜ w < 2 ⌝ }
+    requires { ⌜ duration ≤ 40 ⌝ }
     requires { ⌜ now out ≡ unused ⌝ }
     ensures { λ r. ⌜
         filterGiven r (now (out .exit))
-        ≡ filterOf (now (s .entry)) (now (orders .entry)) (now (rows .entry)) w highest flag c
+        ≡ filterOf (now (s .entry)) (now (orders .entry)) (now (rows .entry)) duration flag c
         ⌝ }
-    ensures { λ r. ⌜ GoodFilter (now (s .entry)) highest c r ⌝ }
+    ensures { λ r. ⌜ GoodFilter (now (s .entry)) duration c r ⌝ }
 {
     if flag == 0 {
         return FilterRead::Value(0, c);
     }
+    let w = tns_weighting(duration, s.len());
     match decode(s, orders, w * 9, 7, c) {
         Symbol::Cause(k) => FilterRead::Cause(k),
         Symbol::Value(v, next) => {
             let order = v + 1;
-            if highest < order {
+            if highest_order(duration) < order {
                 return FilterRead::Cause(8);
             }
             match coefficients(s, rows, order, out, next) {

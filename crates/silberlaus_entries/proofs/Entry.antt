@@ -121,7 +121,8 @@ module _ (form : ℕ) (f : Form) (is : whichForm form ≡ which.Is f) (khz q : �
 
   pub no-frame : Bytes s → (lineCount khz q ≡ 0 → ⊥) → x ≡ lineCount khz q → b ≡ lineCount khz q → (p : List ℕ) → p ≡ framePart form s place
       → length p ≡ 0
-      → (judgedEntry form khz q s place x b ≡ refused (missing form s place) 0) × (1 ≤ missing form s place) × (missing form s place ≡ 5 → ⊥)
+      → (judgedEntry form khz q s place x b ≡ refused (missing form s place) 0) × (1 ≤ missing form s place)
+      × (missing form s place ≡ 5 → ⊥)
   unfolding lineCount
   no-frame i h e g p t z =
       let y : length (framePart form s place) ≡ 0 = sym (ap length t) ∙ z in
@@ -133,8 +134,8 @@ module _ (form : ℕ) (f : Form) (is : whichForm form ≡ which.Is f) (khz q : �
       )
 
   -- an entry's frame is read as it stands in the record
-  pub part-read : Bytes s → (lineCount khz q ≡ 0 → ⊥) → x ≡ lineCount khz q → b ≡ lineCount khz q → (p : List ℕ) → p ≡ framePart form s place
-      → (length p ≡ 0 → ⊥)
+  pub part-read : Bytes s → (lineCount khz q ≡ 0 → ⊥) → x ≡ lineCount khz q → b ≡ lineCount khz q → (p : List ℕ)
+      → p ≡ framePart form s place → (length p ≡ 0 → ⊥)
       → judgedOf khz q p x b ≡ judgedEntry form khz q s place x b
   unfolding lineCount judgedOf
   part-read i h e g p t z =

@@ -1,5 +1,5 @@
-// What a caller asks before he lends buffers: a frame's bytes in a slot, and the lines of a rate and a duration. It stands over `slot_sizes` and
-// `frame_settings`.
+// What a caller asks before he lends buffers: a frame's bytes in a slot, and the lines of a rate and a duration. It stands over
+// `slot_sizes` and `frame_settings`.
 // Inner: `silberlaus` stands over it. It asks nothing.
 ghost use mathlib.Core.Path.{_≡_};
 ghost use Rattle.slot_laws.specs.Sizes.{IsFrameSize};

@@ -45,8 +45,8 @@ returns-2 c =
     let k = c .before .before .before in
     let a = k .before .before .before .before .before .args in
     refusal _ _ 1 (c .unread2 .result) _ _
-    (no-setting (a .form) (k .enum-told .given .0 .0) (named k) (a .khz) (a .duration) (now (a .bytes)) (a .place) (length (now (a .spectrum)))
-    (length (now (a .residual)))
+    (no-setting (a .form) (k .enum-told .given .0 .0) (named k) (a .khz) (a .duration) (now (a .bytes)) (a .place)
+    (length (now (a .spectrum))) (length (now (a .residual)))
     (omega (arith, l, c .before .if1 .taken)))
     (omega arith) (λ z. omega arith) (c .unread2 .ensures)
 
@@ -56,8 +56,8 @@ returns-3 c =
     let k = c .before .before .before .before in
     let a = k .before .before .before .before .before .args in
     refusal _ _ 2 (c .unread3 .result) _ _
-    (other-spectrum (a .form) (k .enum-told .given .0 .0) (named k) (a .khz) (a .duration) (now (a .bytes)) (a .place) (length (now (a .spectrum)))
-    (length (now (a .residual)))
+    (other-spectrum (a .form) (k .enum-told .given .0 .0) (named k) (a .khz) (a .duration) (now (a .bytes)) (a .place)
+    (length (now (a .spectrum))) (length (now (a .residual)))
     (λ z. omega (arith, l, z, c .before .before .if1 .left)) (λ z. omega (arith, l, z, c .before .if2 .taken)))
     (omega arith) (λ z. omega arith) (c .unread3 .ensures)
 
@@ -67,8 +67,8 @@ returns-4 c =
     let k = c .before .before .before .before .before in
     let a = k .before .before .before .before .before .args in
     refusal _ _ 2 (c .unread4 .result) _ _
-    (other-residual (a .form) (k .enum-told .given .0 .0) (named k) (a .khz) (a .duration) (now (a .bytes)) (a .place) (length (now (a .spectrum)))
-    (length (now (a .residual)))
+    (other-residual (a .form) (k .enum-told .given .0 .0) (named k) (a .khz) (a .duration) (now (a .bytes)) (a .place)
+    (length (now (a .spectrum))) (length (now (a .residual)))
     (λ z. omega (arith, l, z, c .before .before .before .if1 .left)) (λ z. omega (arith, l, z, c .before .if3 .taken)))
     (omega arith) (λ z. omega arith) (c .unread4 .ensures)
 
@@ -78,8 +78,8 @@ returns-5 c =
     let k = f .before .before .before .before .before in
     let a = k .before .before .before .before .before .args in
     let t = tested f in
-    let n = no-frame (a .form) (k .enum-told .given .0 .0) (named k) (a .khz) (a .duration) (now (a .bytes)) (a .place) (length (now (a .spectrum)))
-    (length (now (a .residual))) (t .0) (t .1) (t .2) (t .3)
+    let n = no-frame (a .form) (k .enum-told .given .0 .0) (named k) (a .khz) (a .duration) (now (a .bytes)) (a .place)
+    (length (now (a .spectrum))) (length (now (a .residual))) (t .0) (t .1) (t .2) (t .3)
     (now (f .frame .result)) (f .frame .ensures) (omega (arith, c .before .before .if4 .taken)) in
     refusal _ _ _ (c .unread5 .result) _ _ (n .0) (n .1) (n .2) (rw (c .before .why-missing .ensures) at (c .unread5 .ensures))
 
@@ -91,8 +91,8 @@ returns-6 c =
     let r = c .before .before .before .before .read in
     let t = tested f in
     let e = c .before .before .before .before .before .before .before .if4 .left in
-    let p = part-read (a .form) (k .enum-told .given .0 .0) (named k) (a .khz) (a .duration) (now (a .bytes)) (a .place) (length (now (a .spectrum)))
-    (length (now (a .residual))) (t .0) (t .1) (t .2) (t .3)
+    let p = part-read (a .form) (k .enum-told .given .0 .0) (named k) (a .khz) (a .duration) (now (a .bytes)) (a .place)
+    (length (now (a .spectrum))) (length (now (a .residual))) (t .0) (t .1) (t .2) (t .3)
     (now (f .frame .result)) (f .frame .ensures) (λ z. omega (arith, z, e)) in
     reading _ _ _ (r .result) (c .numbered .result) _ _ _ _ p (c .numbered .ensures)
     (r .ensures .0) (r .ensures .1)
