@@ -1,12 +1,12 @@
 -- The settings: a rate and a duration that the code names are those of the definition, and one computed test over all twenty settings gives
--- what the reader uses of one, and that its lines are those of formula 7.
+-- what the reader uses of one.
 -- Assumes nothing.
 use mathlib.Core.Path.{_≡_, refl, subst, sym, ap, _∙_}
 use mathlib.Core.Bool.{Bool, true, false, cond}
 use mathlib.Core.Option.{Option, none, some}
 use mathlib.Core.List.{List, [], _∷_}
 use mathlib.Core.Logic.{inl, inr}
-use Prim.Native.Nat.{ℕ, _+_, _*_, _/_, _≤_, _<_}
+use Prim.Native.Nat.{ℕ, _*_, _≤_, _<_}
 use native.Mathlib.Omega.{arith}
 use native.Mathlib.Nat.{mul-le-mul}
 use lib.Dec.{T, eqb, ltb, leb, eqb→eq, ltb→lt, leb→le}
@@ -14,7 +14,7 @@ use types.Run.{OneOf}
 use borrow.Author.Tests.{eqb-true, eq-eqb, ne-eqb, le-leb}
 use Rattle.laws.proofs.Every.{both, implies, implies-elim, both-left, both-right, every, at}
 use Rattle.frame_settings.specs.Settings.{Rate, rate, rates, durations, pairBits, setting, rateIn, listed, settingFor}
-use Rattle.frame_settings.specs.Settings.{settingOf, linesOf, linesAt, lineCount, halfOf, Known, KnownSetting}
+use Rattle.frame_settings.specs.Settings.{settingOf, linesAt, lineCount, halfOf, Known, KnownSetting}
 use Rattle.frame_settings.specs.declared.Setting.{Setting}
 use Rattle.frame_settings.specs.declared.Settled.{Settled}
 use Rattle.frame_settings.specs.declared.Settled.the-variants as settled
@@ -68,13 +68,10 @@ pair-ranged half h l =
     (implies-elim (leb 7 half) (eqb (ranged half) (pairBits half))
     (at 255 (λ x. implies (leb 7 x) (eqb (ranged x) (pairBits x))) tt half (omega arith)) (subst T (sym (le-leb 7 half h)) tt))
 
--- ---- half of the lines
+-- ---- rate times duration
 
-pub half-between : (index q : ℕ) → index ≤ 4 → (10 ≤ q) × (q ≤ 40) → (10 ≤ q * (index + 1)) × (q * (index + 1) ≤ 200)
-half-between index q h d =
-    let l : 1 ≤ index + 1 = omega arith in
-    let m : index + 1 ≤ 5 = omega arith in
-    (mul-le-mul (d .0) l, mul-le-mul (d .1) m)
+pub product-between : (khz q : ℕ) → (8 ≤ khz) × (khz ≤ 48) → (10 ≤ q) × (q ≤ 40) → (80 ≤ khz * q) × (khz * q ≤ 1920)
+product-between khz q k d = (mul-le-mul (k .0) (d .0), mul-le-mul (k .1) (d .1))
 
 -- ---- the rates
 
@@ -109,12 +106,8 @@ numbers r = both (leb (r .index) 4) (leb (r .duration) 40)
 abbrev sound : Setting → Bool
 sound r = both (sizes r) (both (widths r) (numbers r))
 
--- formula 7
-abbrev byFormula : ℕ → Rate → Bool
-byFormula q x = eqb (2 * (q * (x .index + 1))) (linesOf (x .khz) q)
-
 abbrev soundAt : ℕ → Rate → Bool
-soundAt q x = both (sound (setting (x .index) (x .bandwidth) q)) (byFormula q x)
+soundAt q x = sound (setting x q)
 
 abbrev Sound : Settled → Type 0
 Sound (settled.Known r) = T (sound r)
@@ -135,10 +128,11 @@ found-passed (x ∷ xs) f t khz =
     either-passed f (eqb khz (x .khz)) (some x) (rateIn xs khz) (both-left (f x) (everyOf xs f) t)
     (found-passed xs f (both-right (f x) (everyOf xs f) t) khz)
 
-pub rate-index : (khz index bandwidth : ℕ) → some (rate khz index bandwidth) ≡ rateIn rates khz → index ≤ 4
-rate-index khz index bandwidth e =
-    let f : Rate → Bool = λ x. leb (x .index) 4 in
-    leb→le index 4 (subst (Passed f) (sym e) (found-passed rates f tt khz))
+pub rate-bounds : (khz index bandwidth : ℕ) → some (rate khz index bandwidth) ≡ rateIn rates khz → (8 ≤ khz) × (khz ≤ 48)
+rate-bounds khz index bandwidth e =
+    let t = subst (Passed (λ x. both (leb 8 (x .khz)) (leb (x .khz) 48))) (sym e)
+    (found-passed rates (λ x. both (leb 8 (x .khz)) (leb (x .khz) 48)) tt khz) in
+    (leb→le 8 khz (both-left (leb 8 khz) (leb khz 48) t), leb→le khz 48 (both-right (leb 8 khz) (leb khz 48) t))
 
 -- the one computed test
 all-sound : (khz q : ℕ) → T (listed durations q) → Passed (soundAt q) (rateIn rates khz)
@@ -148,8 +142,8 @@ sound-for : (o : Option Rate) (q : ℕ) → (T (listed durations q) → Passed (
 sound-for none q p = tt
 sound-for (some x) q p = go (listed durations q) p
   where
-    go : (b : Bool) → (T b → T (soundAt q x)) → Sound (cond b (settled.Known (setting (x .index) (x .bandwidth) q)) settled.Unknown)
-    go true h = both-left (sound (setting (x .index) (x .bandwidth) q)) (byFormula q x) (h tt)
+    go : (b : Bool) → (T b → T (soundAt q x)) → Sound (cond b (settled.Known (setting x q)) settled.Unknown)
+    go true h = h tt
     go false h = tt
 
 sound-setting : (khz q : ℕ) → Sound (settingOf khz q)
@@ -212,48 +206,10 @@ module _ (khz q : ℕ) where
   rate-missing e = rw (← e)
 
   module _ (index bandwidth : ℕ) (e : some (rate khz index bandwidth) ≡ rateIn rates khz) where
-    pub setting-found : listed durations q ≡ true → settled.Known (setting index bandwidth q) ≡ settingOf khz q
+    pub setting-found : listed durations q ≡ true → settled.Known (setting (rate khz index bandwidth) q) ≡ settingOf khz q
     unfolding settingOf
     setting-found l = rw (← e, l)
 
     pub duration-missing : listed durations q ≡ false → settled.Unknown ≡ settingOf khz q
     unfolding settingOf
     duration-missing l = rw (← e, l)
-
--- ---- the lines are those of formula 7
-
-abbrev Keyed : ℕ → Option Rate → Type 0
-Keyed khz none = Unit {0}
-Keyed khz (some x) = khz ≡ x .khz
-
-keyed-first : (khz : ℕ) (x : Rate) (b : Bool) (o : Option Rate) → eqb khz (x .khz) ≡ b → Keyed khz o → Keyed khz (cond b (some x) o)
-keyed-first khz x true o e k = eqb-true khz (x .khz) e
-keyed-first khz x false o e k = k
-
-found-keyed : (xs : List Rate) (khz : ℕ) → Keyed khz (rateIn xs khz)
-found-keyed [] khz = tt
-found-keyed (x ∷ xs) khz = keyed-first khz x (eqb khz (x .khz)) (rateIn xs khz) refl (found-keyed xs khz)
-
--- n lines, where there is a setting
-abbrev Lines : ℕ → Settled → Type 0
-Lines n (settled.Known r) = r .lines ≡ n
-Lines n settled.Unknown = Unit {0}
-
-formula-for : (khz q : ℕ) (o : Option Rate) → Keyed khz o → (T (listed durations q) → Passed (soundAt q) o)
-    → Lines (linesOf khz q) (settingFor o q)
-formula-for khz q none k p = tt
-formula-for khz q (some x) k p = rw k (go (listed durations q) p)
-  where
-    go : (b : Bool) → (T b → T (soundAt q x))
-        → Lines (linesOf (x .khz) q) (cond b (settled.Known (setting (x .index) (x .bandwidth) q)) settled.Unknown)
-    go true h =
-        eqb→eq (2 * (q * (x .index + 1))) (linesOf (x .khz) q)
-        (both-right (sound (setting (x .index) (x .bandwidth) q)) (byFormula q x) (h tt))
-    go false h = tt
-
-formula-7 : (khz q : ℕ) → Lines (linesOf khz q) (settingOf khz q)
-unfolding settingOf
-formula-7 khz q = formula-for khz q (rateIn rates khz) (found-keyed rates khz) (all-sound khz q)
-
-pub by-formula-7 : (khz q : ℕ) (r : Setting) → settingOf khz q ≡ settled.Known r → r .lines ≡ linesOf khz q
-by-formula-7 khz q r e = subst (Lines (linesOf khz q)) e (formula-7 khz q)

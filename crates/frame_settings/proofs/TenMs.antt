@@ -19,10 +19,10 @@ use Rattle.frame_settings.specs.declared.Settled.the-variants as settled
 -- the rates with their settings of 10 ms
 rows : List Rate → List Row
 rows [] = []
-rows (x ∷ xs) = record { khz = x .khz; given = setting (x .index) (x .bandwidth) 40 } ∷ rows xs
+rows (x ∷ xs) = record { khz = x .khz; given = setting x 40 } ∷ rows xs
 
 row-first : (x : Rate) (b : Bool) (o : Option Rate) (s : Settled) → settingFor o 40 ≡ s
-    → settingFor (cond b (some x) o) 40 ≡ cond b (settled.Known (setting (x .index) (x .bandwidth) 40)) s
+    → settingFor (cond b (some x) o) 40 ≡ cond b (settled.Known (setting x 40)) s
 row-first x true o s e = refl
 row-first x false o s e = e
 
@@ -49,7 +49,7 @@ unfolding lastCauseOf
 seven-for none q h = refl
 seven-for (some x) q h = go (listed durations q)
   where
-    go : (b : Bool) → lastCauseOf (cond b (settled.Known (setting (x .index) (x .bandwidth) q)) settled.Unknown) ≡ 7
+    go : (b : Bool) → lastCauseOf (cond b (settled.Known (setting x q)) settled.Unknown) ≡ 7
     go true = rw (lt-leb q 20 h)
     go false = refl
 

@@ -43,14 +43,13 @@ pairBits half = cond (ltb (2 ^ widthOf half 8 - half) 2) (suc (widthOf half 8)) 
 abbrev pub linesOf : ℕ → ℕ → ℕ
 linesOf khz q = cond (ltb khz 40) khz 40 * q / 4
 
--- what a rate, by its index and its bandwidth's bits, and a duration give; 8 x (index + 1) lines a millisecond are those of formula 7
--- (`by-formula-7`)
-abbrev pub setting : ℕ → ℕ → ℕ → Setting
-setting index bandwidth q = record {
-  index = index;
-  lines = 2 * (q * (index + 1));
-  bandwidth = bandwidth;
-  pair = pairBits (q * (index + 1));
+-- what a rate and a duration give
+abbrev pub setting : Rate → ℕ → Setting
+setting r q = record {
+  index = r .index;
+  lines = linesOf (r .khz) q;
+  bandwidth = r .bandwidth;
+  pair = pairBits (linesOf (r .khz) q / 2);
   duration = q;
 }
 
@@ -67,7 +66,7 @@ listed (x ∷ xs) q = cond (eqb q x) true (listed xs q)
 -- of a rate that was found or not, and a duration
 abbrev pub settingFor : Option Rate → ℕ → Settled
 settingFor none q = settled.Unknown
-settingFor (some x) q = cond (listed durations q) (settled.Known (setting (x .index) (x .bandwidth) q)) settled.Unknown
+settingFor (some x) q = cond (listed durations q) (settled.Known (setting x q)) settled.Unknown
 
 -- the setting of a rate and a duration; none where one of them is out of range
 unfoldable pub settingOf : ℕ → ℕ → Settled

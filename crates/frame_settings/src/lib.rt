@@ -4,8 +4,9 @@
 // in range; the others ask nothing, `line_count` among them, which `frame` hands on to callers.
 ghost use mathlib.Core.Path.{_≡_};
 ghost use Prim.Native.Nat.{_≤_, _<_};
-ghost use Rattle.frame_settings.specs.Settings.{durations, listed, pairBits, rates, rateIn, rateGiven, setting, settingOf};
-ghost use Rattle.frame_settings.specs.Settings.{KnownSetting, filtersOf, orderOf, lineCount, rateOffset, weighting};
+ghost use Rattle.frame_settings.specs.Settings.{durations, linesOf, listed, pairBits, rate, rates, rateIn, rateGiven};
+ghost use Rattle.frame_settings.specs.Settings.{setting, settingOf, KnownSetting, filtersOf, orderOf, lineCount, rateOffset};
+ghost use Rattle.frame_settings.specs.Settings.{weighting};
 
 // The rate's index, the line count NE, the bits of the fields bandwidth and last pair, and the duration.
 pub struct Setting {
@@ -67,18 +68,32 @@ fn pair_bits(half: usize) -> usize
     }
 }
 
-// The setting of a rate, by its index and its bandwidth's bits, and a duration.
-fn known(index: usize, bandwidth: usize, duration: usize) -> Setting
-    requires { ⌜ index ≤ 4 ⌝ }
+// NE: at most 40 lines a millisecond.
+fn lines_of(khz: usize, duration: usize) -> usize
+    requires { ⌜ (8 ≤ khz) × (khz ≤ 48) ⌝ }
     requires { ⌜ (10 ≤ duration) × (duration ≤ 40) ⌝ }
-    ensures { λ r. ⌜ r ≡ setting index bandwidth duration ⌝ }
+    ensures { λ r. ⌜ r ≡ linesOf khz duration ⌝ }
+    ensures { λ r. ⌜ (14 ≤ r) × (r ≤ 508) ⌝ }
 {
-    let half = duration * (index + 1);
+    if khz < 40 {
+        khz * duration / 4
+    } else {
+        40 * duration / 4
+    }
+}
+
+// The setting of a rate, whose index and bandwidth's bits are named, and a duration.
+fn known(khz: usize, index: usize, bandwidth: usize, duration: usize) -> Setting
+    requires { ⌜ (8 ≤ khz) × (khz ≤ 48) ⌝ }
+    requires { ⌜ (10 ≤ duration) × (duration ≤ 40) ⌝ }
+    ensures { λ r. ⌜ r ≡ setting (rate khz index bandwidth) duration ⌝ }
+{
+    let lines = lines_of(khz, duration);
     Setting {
         index,
-        lines: 2 * half,
+        lines,
         bandwidth,
-        pair: pair_bits(half),
+        pair: pair_bits(lines / 2),
         duration,
     }
 }
@@ -93,7 +108,7 @@ pub fn setting_of(khz: u32, duration: u32) -> Settled
         return Settled::Unknown;
     };
     if is_duration(duration) {
-        return Settled::Known(known(index, bandwidth, duration as usize));
+        return Settled::Known(known(khz as usize, index, bandwidth, duration as usize));
     }
     Settled::Unknown
 }

@@ -9,7 +9,7 @@ use borrow.Author.Tests.{le-ltb}
 use Rattle.gf16.specs.Field.{product, expanded, reduced, lowered}
 use Rattle.code_word_laws.proofs.Division.{generators}
 use Rattle.slot_laws.specs.Sizes.{words, wordLength}
-use Rattle.frame_settings.specs.Settings.{settingOf, setting}
+use Rattle.frame_settings.specs.Settings.{settingOf, rate, setting}
 use Rattle.frame_side.specs.Side.{headOf}
 use Rattle.frame_pair.specs.Pair.{pairOf}
 use Rattle.frame_pair.proofs.Escaping.{plane-both}
@@ -21,7 +21,7 @@ all-set : (n : ℕ) → allSet n + 1 * 2 ^ n ≡ allSet (suc n)
 all-set n = let e = pow-suc 2 n in let p = pow-pos n in omega arith
 
 pub small-sums :
-    SmallSums (setting 2 2 40) (setting 4 3 40)
+    SmallSums (setting (rate 24 2 2) 40) (setting (rate 48 4 3) 40)
 unfolding product expanded reduced lowered words wordLength settingOf headOf pairOf recordBytes entriesBytes endBytes big
 small-sums = record {
   products = (refl, refl);

@@ -3,7 +3,7 @@ use mathlib.Core.Path.{_≡_, sym, ap, _∙_}
 use mathlib.Core.Option.{some}
 use Rattle.frame_settings.specs.Settings.{rate, rates, rateIn, rateGiven}
 use Rattle.frame_settings.specs.declared.Settled.the-variants as settled
-use Rattle.frame_settings.proofs.Settings.{duration-bounds, rate-index, known-setting, rate-missing, setting-found, duration-missing}
+use Rattle.frame_settings.proofs.Settings.{duration-bounds, rate-bounds, known-setting, rate-missing, setting-found, duration-missing}
 use borrow.Author.Needs.{needs}
 use Rattle.frame_settings.proofs.setting_of.Statement.{statement}
 use Rattle.frame_settings.proofs.setting_of.Tie as tie
@@ -21,7 +21,7 @@ returns c =
 known-requires : tie.Need-known-requires
 known-requires c κs =
     let d = c .before in
-    (rate-index _ _ _ (found (d .before .before)), duration-bounds _ (sym (d .is-duration .ensures) ∙ c .if1 .taken))
+    (rate-bounds _ _ _ (found (d .before .before)), duration-bounds _ (sym (d .is-duration .ensures) ∙ c .if1 .taken))
 
 returns-2 : tie.Need-returns-2
 returns-2 c =
