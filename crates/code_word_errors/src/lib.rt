@@ -8,11 +8,11 @@ ghost use Rattle.code_word_laws.specs.Corrector.{WordFor, Syndromes, Acceptable
 ghost use Rattle.code_word_laws.specs.Corrector.{Table, IsTakenOff};
 use code_word_syndromes::both_counts;
 use code_word_syndromes::clear;
-use code_word_syndromes::inverted;
-use code_word_syndromes::logarithm;
 use code_word_syndromes::row;
 use code_word_syndromes::syndromes;
 use code_word_syndromes::times;
+use gf16::SemiOctet;
+use widening::wide;
 
 // Takes the errors off, and counts them: the changed semi-octets, and 16 times the changed bits.
 pub fn take_off(t: &[u32; 512], word: &mut [u8], e: u64) -> u32
@@ -53,11 +53,14 @@ pub fn correct_one(t: &[u32; 512], word: &mut [u8], s: u64, most: u8) -> u8
 {
     let s1 = (s / 16 % 16) as u8;
     let s2 = (s / 16 / 16 % 16) as u8;
-    let v = times(t, inverted(s2), times(t, s1, s1));
+    let i2 = SemiOctet::inverse(SemiOctet(s2)).0;
+    let v = times(t, i2, times(t, s1, s1));
     if v == 0 {
         return 0;
     }
-    let k = logarithm(times(t, inverted(s1), s2));
+    let i1 = SemiOctet::inverse(SemiOctet(s1)).0;
+    let place = times(t, i1, s2);
+    let k = wide(SemiOctet::logarithm(SemiOctet(place)));
     if word.len() <= k {
         return 0;
     }

@@ -5,7 +5,7 @@ use mathlib.Core.Logic.{_≢_}
 use Prim.Native.Nat.{ℕ, _≤_, _<_}
 use native.Mathlib.Omega.{arith}
 use Rattle.gf16.specs.Field.{product, inverse}
-use Rattle.gf16.proofs.Laws.{product-lt}
+use Rattle.gf16.proofs.Laws.{product-lt, inverse-lt}
 use Rattle.code_word_laws.specs.Packed.{nibble}
 use Rattle.code_word_laws.specs.Corrector.{ThirdMinorZero, SecondMinorZero, IsLocator, minorTwo, triple, minor}
 use Rattle.code_word_laws.proofs.Packed.{nibble-lt}
@@ -14,6 +14,9 @@ use Rattle.code_word_laws.proofs.Correcting.{locator-by}
 
 below : (i a x : ℕ) → x ≡ product i a → x < 16
 below i a x e = rw e (product-lt i a)
+
+pub inverse-below : (d : ℕ) {i : ℕ} → i ≡ inverse d → i < 16
+inverse-below d e = rw e (inverse-lt d)
 
 module _ (s : ℕ) where
   abbrev n1 : ℕ

@@ -8,9 +8,9 @@ ghost use Rattle.code_word_laws.specs.Word.{SemiOctets};
 ghost use Rattle.code_word_laws.specs.Corrector.{Table, TableFor, IsLocator, minorTwo, triple};
 ghost use Rattle.code_word_laws.specs.Corrector.{Started, Transformed, ErrorWord};
 ghost use Rattle.code_word_laws.specs.Corrector.{ThirdMinorZero, MinorsZero, ThirdMinor, SecondMinor};
-use code_word_syndromes::inverted;
 use code_word_syndromes::row;
 use code_word_syndromes::times;
+use gf16::SemiOctet;
 
 // A minor of two rows of the sums.
 fn minor_two(t: &[u32; 512], a: u8, b: u8, c: u8, d: u8) -> u8
@@ -57,7 +57,7 @@ fn locator_three(t: &[u32; 512], s: u64, d: u8) -> Locator
     let first = tripled(t, m13, s3, m03, s4, m01, s6);
     let second = tripled(t, m23, s3, m03, s5, m02, s6);
     let third = tripled(t, m23, s4, m13, s5, m12, s6);
-    let i = inverted(d);
+    let i = SemiOctet::inverse(SemiOctet(d)).0;
     Locator(
         times(t, i, first),
         times(t, i, second),
@@ -78,7 +78,7 @@ fn locator_two(t: &[u32; 512], s: u64, most: u8, c: u8) -> Locator
     let s4 = (s / 16 / 16 / 16 / 16 % 16) as u8;
     let first = minor_two(t, s1, s3, s2, s4);
     let second = minor_two(t, s2, s3, s3, s4);
-    let i = inverted(c);
+    let i = SemiOctet::inverse(SemiOctet(c)).0;
     Locator(times(t, i, first), times(t, i, second), 0, s3)
 }
 
@@ -91,7 +91,8 @@ fn locator_one(t: &[u32; 512], s: u64, most: u8) -> Locator
     let s1 = (s / 16 % 16) as u8;
     let s2 = (s / 16 / 16 % 16) as u8;
     let s3 = (s / 16 / 16 / 16 % 16) as u8;
-    let first = times(t, inverted(s1), s2);
+    let i = SemiOctet::inverse(SemiOctet(s1)).0;
+    let first = times(t, i, s2);
     if most == 1 {
         return Locator(first, 0, 0, times(t, first, s2));
     }

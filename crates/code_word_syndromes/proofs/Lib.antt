@@ -1,3 +1,2 @@
--- What the code of this crate asks: its table (Tabled), and its lists of inverses and logarithms (Inverses).
+-- What the code of this crate asks of its table.
 pub mod Tabled
-pub mod Inverses

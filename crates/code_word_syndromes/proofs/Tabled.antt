@@ -1,4 +1,4 @@
--- The corrector's table as a definition: its entries are computed from the field, by the digits of gf16's Products, and the code's constant
+-- The corrector's table as a definition: its entries are computed from the field, by gf16's product by logarithms, and the code's constant
 -- is compared with them by one computation. Assumes nothing.
 use mathlib.Core.Path.{_≡_, refl, sym, ap, ap₂, _∙_}
 use mathlib.Core.Bool.{Bool, true, false, cond}
@@ -12,7 +12,7 @@ use borrow.Author.Tests.{lt-ltb, ne-eqb}
 use Rattle.laws.specs.Tab.{tab}
 use Rattle.laws.proofs.Tab.{getD-tab}
 use Rattle.gf16.specs.Field.{product, power}
-use Rattle.gf16.proofs.Products.{looked, product-looked, looked-lt}
+use Rattle.gf16.proofs.Products.{looked, cond-lt, product-looked, looked-lt}
 use Rattle.code_word_laws.specs.Packed.{nibble, packed}
 use Rattle.code_word_laws.specs.Corrector.{bothOf, Table, numberAt}
 use Rattle.code_word_laws.proofs.Packed.{nibble-packed}
@@ -64,12 +64,8 @@ entry-at a b h p ha hb hh n e =
 abbrev cell : ℕ → ℕ → ℕ → ℕ
 cell a b = digit (quick 2 a) (looked (a % 16) (b % 16)) b
 
-cond-lt : (c : Bool) (x y : ℕ) → x < 16 → y < 16 → cond c x y < 16
-cond-lt true x y p q = p
-cond-lt false x y p q = q
-
 cell-lt : (a b j : ℕ) → cell a b j < 16
-cell-lt a b j = cond-lt (ltb j 15) _ _ (looked-lt (b % 16) (quick (quick 2 a) j % 16)) (looked-lt (a % 16) (b % 16))
+cell-lt a b j = cond-lt (ltb j 15) _ _ 16 (looked-lt (b % 16) (quick (quick 2 a) j % 16)) (looked-lt (a % 16) (b % 16))
 
 -- what a digit is in the field
 cell-spread : (a b j : ℕ) → looked (b % 16) (quick (quick 2 a) j % 16) ≡ product b (power (power 2 a) j)

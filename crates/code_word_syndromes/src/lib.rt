@@ -1,13 +1,12 @@
-// The corrector's table, the field's operations and both counts of an error from tables, and a word's syndromes: its values at 2^0 .. 2^14
-// are read from the lent table and added up, packed in one number; those at 2^1 .. 2^(2 t) are those of its errors alone.
+// The corrector's table, the field's product and both counts of an error from it, and a word's syndromes: its values at 2^0 .. 2^14 are
+// read from the lent table and added up, packed in one number; those at 2^1 .. 2^(2 t) are those of its errors alone.
 // Inner: `code_word_locator`, `code_word_corrector` and `code_word` stand over it. It asks for the table that `table` gives, for t from 1
 // to 3 and for semi-octets.
 ghost use mathlib.Core.Path.{_≡_};
-ghost use mathlib.Core.Logic.{_≢_};
 ghost use Prim.Native.Nat.{_+_, _%_, _^_, _≤_, _<_};
 ghost use lib.ListN.{length};
 ghost use Rattle.laws.specs.Decides.{Decides};
-ghost use Rattle.gf16.specs.Field.{product, power, inverse};
+ghost use Rattle.gf16.specs.Field.{product};
 ghost use Rattle.code_word_laws.specs.Word.{SemiOctets};
 ghost use Rattle.code_word_laws.specs.Corrector.{bothOf, Table, Row, Syndromes, Clear};
 use widening::long;
@@ -607,30 +606,4 @@ pub fn clear(s: u64, most: u8) -> bool
     ensures { λ r. ⌜ Decides (Clear (most + most) s) r ⌝ }
 {
     s / 16 % window(most) == 0
-}
-
-// The inverses of the field's elements; of 0 it is 0.
-const INVERSES: [u8; 16] = [0, 1, 9, 14, 13, 11, 7, 6, 15, 2, 12, 5, 10, 4, 3, 8];
-
-// The inverse of a field element.
-pub fn inverted(a: u8) -> u8
-    requires { ⌜ a < 16 ⌝ }
-    ensures { λ r. ⌜ r ≡ inverse a ⌝ }
-    ensures { λ r. ⌜ r < 16 ⌝ }
-{
-    let at = wide(a);
-    INVERSES[at]
-}
-
-// The logarithms of the field's elements to the base 2; of 0 it is 0.
-const LOGARITHMS: [u8; 16] = [0, 0, 1, 4, 2, 8, 5, 10, 3, 14, 9, 7, 6, 13, 11, 12];
-
-// The logarithm of a field element.
-pub fn logarithm(a: u8) -> usize
-    requires { ⌜ a < 16 ⌝ }
-    ensures { λ r. ⌜ r < 15 ⌝ }
-    ensures { λ r. ⌜ (a ≢ 0 → power 2 r ≡ a) ⌝ }
-{
-    let at = wide(a);
-    wide(LOGARITHMS[at])
 }

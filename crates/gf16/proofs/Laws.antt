@@ -13,7 +13,17 @@ use lib.Bits.{bitXor, differ, xor-comm, xor-self, xor-zero-l, xor-zero-r, xor-st
 use lib.Dec.{T, eqb, ltb, eqb→eq, ltb→lt}
 use borrow.Author.Tests.{eq-eqb}
 use Rattle.laws.proofs.Every.{implies, implies-elim, both, both-left, both-right, at, at2, at3}
-use Rattle.gf16.specs.Field.{sum, expanded, lowered, reduced, product, power, inverse}
+use Rattle.gf16.specs.Field.{
+  sum,
+  expanded,
+  lowered,
+  reduced,
+  product,
+  power,
+  inverse,
+  logarithm,
+  logarithmBelow,
+}
 use Rattle.gf16.proofs.Products.{looked, product-looked, looked-lt}
 
 -- ---- the sum
@@ -239,23 +249,17 @@ power-injective i j hi hj e =
     (implies-elim (eqb (power 2 i) (power 2 j)) (eqb i j) (at2 15 15 generates-test tt i j hi hj)
     (subst T (sym (eq-eqb (power 2 i) (power 2 j) e)) tt))
 
--- where 2 ^ i is a, for an i below n
-placed : ℕ → ℕ → ℕ
-placed zero a = 0
-placed (suc n) a = elim (eqb (power 2 n) a) [ true ↦ n | false ↦ placed n a ]
-
 generated-test : ℕ → Bool
-generated-test a = both (ltb (placed 15 (suc a)) 15) (eqb (power 2 (placed 15 (suc a))) (suc a))
+generated-test a = both (ltb (logarithm (suc a)) 15) (eqb (power 2 (logarithm (suc a))) (suc a))
 
--- .. and are all elements but 0
+-- .. and are all elements but 0, each that of its logarithm
 pub generated : (a : ℕ) → a < 16 → a ≢ 0 → (i : ℕ) × (i < 15) × (power 2 i ≡ a)
-unfolding product reduced lowered expanded power placed generated-test
+unfolding product reduced lowered expanded power logarithm logarithmBelow generated-test
 generated zero h n = absurd (n refl)
 generated (suc a) h n = let t = at 15 generated-test tt a (omega arith) in (
-  placed 15 (suc a),
-  ltb→lt (placed 15 (suc a)) 15
-      (both-left (ltb (placed 15 (suc a)) 15) (eqb (power 2 (placed 15 (suc a))) (suc a)) t),
-  eqb→eq (power 2 (placed 15 (suc a))) (suc a) (both-right (ltb (placed 15 (suc a)) 15) (eqb (power 2 (placed 15 (suc a))) (suc a)) t),
+  logarithm (suc a),
+  ltb→lt (logarithm (suc a)) 15 (both-left (ltb (logarithm (suc a)) 15) (eqb (power 2 (logarithm (suc a))) (suc a)) t),
+  eqb→eq (power 2 (logarithm (suc a))) (suc a) (both-right (ltb (logarithm (suc a)) 15) (eqb (power 2 (logarithm (suc a))) (suc a)) t),
 )
 
 nonzero-test : ℕ → Bool

@@ -2,8 +2,10 @@
 -- + 1 = 0. A number stands for the polynomial of its bits, so x is 2. Every function is total: a product looks at the low four bits of its
 -- arguments.
 -- Assumes nothing.
+use mathlib.Core.Bool.{cond}
 use Prim.Native.Nat.{ℕ, zero, suc, _+_, _*_, _/_, _%_, _^_}
 use lib.Bits.{bitXor}
+use lib.Dec.{eqb}
 
 -- the sum of two polynomials over {0, 1}: exclusive or
 unfoldable pub sum : ℕ → ℕ → ℕ
@@ -33,3 +35,12 @@ power a (suc n) = product a (power a n)
 -- a^14: since a^15 = 1 for each a but 0, the inverse of each a but 0; of 0 it is 0
 unfoldable pub inverse : ℕ → ℕ
 inverse a = power a 14
+
+-- the n below m with x^n = a; 15 where there is none
+unfoldable pub logarithmBelow : ℕ → ℕ → ℕ
+logarithmBelow zero a = 15
+logarithmBelow (suc n) a = cond (eqb (power 2 n) a) n (logarithmBelow n a)
+
+-- the logarithm of a to the base x: the n below 15 with x^n = a. Zero is no power of x, and has 15, which is no logarithm
+unfoldable pub logarithm : ℕ → ℕ
+logarithm a = logarithmBelow 15 (a % 16)

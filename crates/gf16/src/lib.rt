@@ -2,9 +2,9 @@
 // It stands over nothing. Each operation equals its definition in specs/Field.antt for every value of the inner byte,
 // and proofs/Laws.antt has the field's laws. Nothing outside this crate depends on how a product is computed.
 ghost use mathlib.Core.Path.{_≡_};
-ghost use Prim.Native.Nat.{_*_, _%_, _<_};
+ghost use Prim.Native.Nat.{_*_, _/_, _%_, _^_, _≤_};
 ghost use lib.Dec.{eqb};
-ghost use Rattle.gf16.specs.Field.{sum, expanded, reduced, product, inverse};
+ghost use Rattle.gf16.specs.Field.{sum, product, power, inverse, logarithm};
 
 // An element of the field (document 01: semi-octet). A product and an inverse look at the low four bits; a sum is that of the whole byte.
 pub struct SemiOctet(pub u8);
@@ -37,59 +37,56 @@ impl SemiOctet {
         SemiOctet(a.0 ^ b.0)
     }
 
-    // The field's product, reduced by x^4 + x + 1.
+    // The logarithm to the base x: which power of x the element is, from 0 to 14. Zero is none, and has 15, which is no logarithm.
+    pub fn logarithm(a: SemiOctet) -> u8
+        ensures { λ r. ⌜ r ≡ logarithm (a .0) ⌝ }
+        ensures { λ r. ⌜ r ≤ 15 ⌝ }
+    {
+        digit(LOGARITHMS, a.0)
+    }
+
+    // The field's product: zero where a factor is, and else the power of x whose logarithm is the sum of theirs.
     pub fn product(a: SemiOctet, b: SemiOctet) -> SemiOctet
         ensures { λ r. ⌜ r .0 ≡ product (a .0) (b .0) ⌝ }
     {
-        SemiOctet(multiplied(a.0 % 16, b.0 % 16))
+        if SemiOctet::is_zero(a) {
+            return SemiOctet::ZERO;
+        }
+        if SemiOctet::is_zero(b) {
+            return SemiOctet::ZERO;
+        }
+        SemiOctet(powered(SemiOctet::logarithm(a) + SemiOctet::logarithm(b)))
     }
 
-    // The inverse of each element but zero; of zero it is zero.
+    // The inverse of each element but zero, with what its logarithm lacks of 15; of zero it is zero.
     pub fn inverse(a: SemiOctet) -> SemiOctet
         ensures { λ r. ⌜ r .0 ≡ inverse (a .0) ⌝ }
     {
-        let a2 = SemiOctet::product(a, a);
-        let a3 = SemiOctet::product(a, a2);
-        let a6 = SemiOctet::product(a3, a3);
-        let a7 = SemiOctet::product(a, a6);
-        SemiOctet::product(a7, a7)
+        if SemiOctet::is_zero(a) {
+            return SemiOctet::ZERO;
+        }
+        SemiOctet(powered(15 - SemiOctet::logarithm(a)))
     }
 }
 
-// a where the digit d is 1, else 0.
-fn term(d: u8, a: u8) -> u8
-    requires { ⌜ d < 2 ⌝ }
-    requires { ⌜ a < 128 ⌝ }
-    ensures { λ r. ⌜ r ≡ d * a ⌝ }
-    ensures { λ r. ⌜ r < 128 ⌝ }
+// Digit a is the logarithm of a, the lowest that of zero, which has none.
+const LOGARITHMS: u64 = 0xcbd679e3a582410f;
+
+// Digit n is the power n of x; the fifteenth is 1 again.
+const POWERS: u64 = 0x19dfe7a5bc638421;
+
+// Digit i of a table of sixteen, by its low four bits. A packed number is shifted, where an array is built anew at each call.
+fn digit(table: u64, i: u8) -> u8
+    ensures { λ r. ⌜ r ≡ table / 2 ^ (4 * (i % 16)) % 16 ⌝ }
+    ensures { λ r. ⌜ r ≤ 15 ⌝ }
 {
-    d * a
+    ((table >> (4 * (i % 16))) % 16) as u8
 }
 
-// The product of two polynomials of degree at most 3, not reduced.
-fn expand(a: u8, b: u8) -> u8
-    requires { ⌜ a < 16 ⌝ }
-    requires { ⌜ b < 16 ⌝ }
-    ensures { λ r. ⌜ r ≡ expanded a b ⌝ }
-    ensures { λ r. ⌜ r < 128 ⌝ }
+// The power n of x, for a sum of two logarithms. It is reduced by counting sixteen as one, since x^15 is 1.
+fn powered(n: u8) -> u8
+    requires { ⌜ n ≤ 30 ⌝ }
+    ensures { λ r. ⌜ r ≡ power 2 n ⌝ }
 {
-    (term(b % 2, a) ^ term(b / 2 % 2, a * 2)) ^ (term(b / 4 % 2, a * 4) ^ term(b / 8 % 2, a * 8))
-}
-
-// The powers 6, 5 and 4 taken off by multiples of x^4 + x + 1.
-fn reduce(v: u8) -> u8
-    requires { ⌜ v < 128 ⌝ }
-    ensures { λ r. ⌜ r ≡ reduced v ⌝ }
-{
-    let w = v ^ (v / 64 * 76);
-    let x = w ^ (w / 32 * 38);
-    x ^ (x / 16 * 19)
-}
-
-fn multiplied(a: u8, b: u8) -> u8
-    requires { ⌜ a < 16 ⌝ }
-    requires { ⌜ b < 16 ⌝ }
-    ensures { λ r. ⌜ r ≡ reduced (expanded a b) ⌝ }
-{
-    reduce(expand(a, b))
+    digit(POWERS, n + n / 16)
 }

@@ -1,6 +1,6 @@
 -- `code_word_locator::locator_three` meets its contract. Assumes nothing.
 use borrow.Author.Needs.{needs}
-use Rattle.code_word_locator.proofs.Levels.{locator-three-done}
+use Rattle.code_word_locator.proofs.Levels.{inverse-below, locator-three-done}
 use Rattle.code_word_laws.proofs.Packed.{nibble-lt, four-nibbles, six-elements}
 use Rattle.code_word_locator.proofs.locator_three.Statement.{statement}
 use Rattle.code_word_locator.proofs.locator_three.Tie as tie
@@ -50,20 +50,17 @@ tripled-requires-3 c κs =
           (c .before .before .before .before .minor-two4 .ensures .1) (nibble-lt 6 (s .args .s)),
     )
 
-inverted-requires : tie.Need-inverted-requires
-inverted-requires c κs = c .before .before .before .before .before .before .before .before .before .pre .1 .below
-
-abbrev begin : tie.After-inverted → tie.Start
+abbrev begin : tie.After-inverse → tie.Start
 begin c = c .before .before .before .before .before .before .before .before .before .before
 
 times-requires : tie.Need-times-requires
-times-requires c κs = (begin c .pre .0, (c .inverted .ensures .1, c .before .before .before .tripled .ensures .1))
+times-requires c κs = (begin c .pre .0, (inverse-below _ (c .inverse .ensures), c .before .before .before .tripled .ensures .1))
 
 times-requires-2 : tie.Need-times-requires-2
-times-requires-2 c κs = let i = c .before in (begin i .pre .0, (i .inverted .ensures .1, i .before .before .tripled2 .ensures .1))
+times-requires-2 c κs = let i = c .before in (begin i .pre .0, (inverse-below _ (i .inverse .ensures), i .before .before .tripled2 .ensures .1))
 
 times-requires-3 : tie.Need-times-requires-3
-times-requires-3 c κs = let i = c .before .before in (begin i .pre .0, (i .inverted .ensures .1, i .before .tripled3 .ensures .1))
+times-requires-3 c κs = let i = c .before .before in (begin i .pre .0, (inverse-below _ (i .inverse .ensures), i .before .tripled3 .ensures .1))
 
 returns : tie.Need-returns
 returns c =
@@ -75,7 +72,7 @@ returns c =
     (m .before .before .before .before .before .minor-two .ensures .0) (m .before .before .before .before .minor-two2 .ensures .0)
     (m .before .before .before .minor-two3 .ensures .0) (m .before .before .minor-two4 .ensures .0) (m .before .minor-two5 .ensures .0)
     (m .minor-two6 .ensures .0) (t .before .before .tripled .ensures .0) (t .before .tripled2 .ensures .0) (t .tripled3 .ensures .0)
-    (i .inverted .ensures .0) (c .before .before .times .ensures) (c .before .times2 .ensures) (c .times3 .ensures)
+    (i .inverse .ensures) (c .before .before .times .ensures) (c .before .times2 .ensures) (c .times3 .ensures)
 
 pub locator-three-spec : {M : Type 1} → statement M
 locator-three-spec =
@@ -84,4 +81,4 @@ locator-three-spec =
     (λ c. search needs) (λ c. search needs) (λ c. search needs) (λ c. search needs) (λ c. search needs)
     (λ c. search needs) minor-two-requires minor-two-requires-2 minor-two-requires-3 minor-two-requires-4
     minor-two-requires-5 minor-two-requires-6 tripled-requires tripled-requires-2 tripled-requires-3
-    inverted-requires times-requires times-requires-2 times-requires-3 returns)
+    (λ c κs. search needs) times-requires times-requires-2 times-requires-3 returns)
