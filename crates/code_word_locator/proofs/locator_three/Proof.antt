@@ -57,10 +57,14 @@ times-requires : tie.Need-times-requires
 times-requires c κs = (begin c .pre .0, (inverse-below _ (c .inverse .ensures), c .before .before .before .tripled .ensures .1))
 
 times-requires-2 : tie.Need-times-requires-2
-times-requires-2 c κs = let i = c .before in (begin i .pre .0, (inverse-below _ (i .inverse .ensures), i .before .before .tripled2 .ensures .1))
+times-requires-2 c κs =
+    let i = c .before in
+    (begin i .pre .0, (inverse-below _ (i .inverse .ensures), i .before .before .tripled2 .ensures .1))
 
 times-requires-3 : tie.Need-times-requires-3
-times-requires-3 c κs = let i = c .before .before in (begin i .pre .0, (inverse-below _ (i .inverse .ensures), i .before .tripled3 .ensures .1))
+times-requires-3 c κs =
+    let i = c .before .before in
+    (begin i .pre .0, (inverse-below _ (i .inverse .ensures), i .before .tripled3 .ensures .1))
 
 returns : tie.Need-returns
 returns c =
