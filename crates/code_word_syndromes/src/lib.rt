@@ -538,14 +538,14 @@ pub fn table() -> [u32; 512]
     TABLE
 }
 
-// The field's product, from the table.
+// The field's product, from the table. Each factor is made wide by itself, so that products by one factor find its row once.
 pub fn times(t: &[u32; 512], a: u8, b: u8) -> u8
     requires { ⌜ Table (now t) ⌝ }
     requires { ⌜ a < 16 ⌝ }
     requires { ⌜ b < 16 ⌝ }
     ensures { λ r. ⌜ r ≡ product a b ⌝ }
 {
-    let at = wide(16 * a + b);
+    let at = 16 * wide(a) + wide(b);
     (t[2 * at + 1] / 268435456) as u8
 }
 
