@@ -1,12 +1,12 @@
-// The field of 16 that Annex A's code words are made of: the semi-octet with its zero, its one, sum, product and inverse.
-// It stands over nothing. Each operation equals its definition in specs/Field.antt for every value of the inner byte,
-// and proofs/Laws.antt has the field's laws. Nothing outside this crate depends on how a product is computed.
+// The field of 16 that Annex A's code words are made of: the semi-octet with its zero, its one, sum, product, inverse
+// and logarithm. It stands over nothing. Each operation equals its definition in specs/Field.antt for every value of the inner byte, and
+// proofs/Laws.antt has the field's laws. Nothing outside this crate depends on how a product is computed.
 ghost use mathlib.Core.Path.{_≡_};
 ghost use Prim.Native.Nat.{_*_, _/_, _%_, _^_, _≤_};
 ghost use lib.Dec.{eqb};
 ghost use Rattle.gf16.specs.Field.{sum, product, power, inverse, logarithm};
 
-// An element of the field (document 01: semi-octet). A product and an inverse look at the low four bits; a sum is that of the whole byte.
+// An element of the field (document 01: semi-octet). A sum is that of the whole byte; the other operations look at the low four bits.
 pub struct SemiOctet(pub u8);
 
 impl SemiOctet {
