@@ -23,28 +23,28 @@ pub power-looked : (n : ℕ) → n < 31 → lookedPower n ≡ power 2 n
 unfolding product reduced lowered expanded power power-test
 power-looked n h = eqb→eq _ _ (at 31 power-test tt n h)
 
-first : (c : Bool) (x y : ℕ) → c ≡ true → cond c x y ≡ x
-first c x y e = ap (λ (d : Bool). cond d x y) e
+cond-true : (c : Bool) (x y : ℕ) → c ≡ true → cond c x y ≡ x
+cond-true c x y e = ap (λ (d : Bool). cond d x y) e
 
-second : (c : Bool) (x y : ℕ) → c ≡ false → cond c x y ≡ y
-second c x y e = ap (λ (d : Bool). cond d x y) e
+cond-false : (c : Bool) (x y : ℕ) → c ≡ false → cond c x y ≡ y
+cond-false c x y e = ap (λ (d : Bool). cond d x y) e
 
 -- a product whose first factor is zero, whose second is, and of two others
 pub of-zero : (a b : ℕ) → eqb (a % 16) 0 ≡ true → 0 ≡ product a b
 unfolding looked
-of-zero a b e = sym (product-looked a b ∙ first (eqb (a % 16) 0) 0 _ e)
+of-zero a b e = sym (product-looked a b ∙ cond-true (eqb (a % 16) 0) 0 _ e)
 
 pub by-zero : (a b : ℕ) → eqb (a % 16) 0 ≡ false → eqb (b % 16) 0 ≡ true → 0 ≡ product a b
 unfolding looked
-by-zero a b e f = sym (product-looked a b ∙ second (eqb (a % 16) 0) 0 _ e ∙ first (eqb (b % 16) 0) 0 _ f)
+by-zero a b e f = sym (product-looked a b ∙ cond-false (eqb (a % 16) 0) 0 _ e ∙ cond-true (eqb (b % 16) 0) 0 _ f)
 
 pub of-others : (a b : ℕ) → eqb (a % 16) 0 ≡ false → eqb (b % 16) 0 ≡ false → power 2 (logarithm a + logarithm b) ≡ product a b
 unfolding looked
 of-others a b e f =
     sym
     (product-looked a b
-    ∙ second (eqb (a % 16) 0) 0 _ e
-    ∙ second (eqb (b % 16) 0) 0 _ f
+    ∙ cond-false (eqb (a % 16) 0) 0 _ e
+    ∙ cond-false (eqb (b % 16) 0) 0 _ f
     ∙ power-looked (digitOf logarithms (a % 16) + digitOf logarithms (b % 16)) (omega arith)
     ∙ ap₂ (λ (m n : ℕ). power 2 (m + n)) (logarithm-looked a) (logarithm-looked b))
 
@@ -62,7 +62,7 @@ unfolding product reduced lowered expanded power inverse logarithm logarithmBelo
 inverse-looked a = eqb→eq _ _ (at 16 inverse-test tt (a % 16) (omega arith)) ∙ power-mod a 14
 
 pub inverse-of-zero : (a : ℕ) → eqb (a % 16) 0 ≡ true → 0 ≡ inverse a
-inverse-of-zero a e = sym (first (eqb (a % 16) 0) 0 _ e) ∙ inverse-looked a
+inverse-of-zero a e = sym (cond-true (eqb (a % 16) 0) 0 _ e) ∙ inverse-looked a
 
 pub inverse-of-other : (a : ℕ) → eqb (a % 16) 0 ≡ false → power 2 (15 - logarithm a) ≡ inverse a
-inverse-of-other a e = sym (second (eqb (a % 16) 0) 0 _ e) ∙ inverse-looked a
+inverse-of-other a e = sym (cond-false (eqb (a % 16) 0) 0 _ e) ∙ inverse-looked a
