@@ -1,8 +1,9 @@
 # make test: all that is proved and tested. make day: the day's path on a sample. make bench: speed beside C, of
-# slots, frames and records; make bench-words: of code words alone. make faults, faults-slot, faults-frame, faults-record: the
-# tests notice what is wrong. make lc3-frame: frames of another encoder, where it is installed; list-frame: such frames for the
-# benchmark. make test-rust: the Rust crate.
-.PHONY: test day bench bench-words build-tests faults faults-slot faults-frame faults-record lc3-frame list-frame test-rust clean
+# slots, frames and records; make bench-words: of code words alone. make faults, faults-slot, faults-frame, faults-writer,
+# faults-record: the tests notice what is wrong. make lc3-frame: frames of another encoder, where it is installed; list-frame:
+# such frames for the benchmark. make test-rust: the Rust crate.
+.PHONY: test day bench bench-words build-tests faults faults-slot faults-frame faults-writer faults-record lc3-frame list-frame
+.PHONY: test-rust clean
 .DELETE_ON_ERROR:
 
 CC := gcc
@@ -28,8 +29,15 @@ FRAME_PARTS := $(addprefix $(FRAME)/,held.c list.c judge.c tries.c refusals.c ma
 # them in a folder of their own
 FRAME_READER := $(FACE_ARCHIVE)
 FRAME_BUILT := target/tests/frame$(if $(filter %.c,$(FRAME_READER)),_stand_in)
+WRITER := tests/writer
+WRITER_PARTS := $(addprefix $(WRITER)/,held.c again.c vectors.c judge.c refusals.c tries.c steer.c ask.c reference.c) \
+	$(addprefix $(FRAME)/,list.c make.c plans.c lend.c reference.c)
+# FRAME_WRITER=tests/writer/stand_in.c does the same for the archive's writer; its test then reads back without the archive
+FRAME_WRITER := $(FACE_ARCHIVE)
+WRITER_BUILT := target/tests/writer$(if $(filter %.c,$(FRAME_WRITER)),_stand_in)
+STAND_INS := $(filter %.c,$(FRAME_READER) $(FRAME_WRITER))
 BENCH := tests/bench
-BENCH_BUILT := target/tests/bench$(if $(filter %.c,$(FRAME_READER)),_stand_in)
+BENCH_BUILT := target/tests/bench$(if $(STAND_INS),_stand_in)
 
 test:
 	@tests/run
@@ -44,7 +52,8 @@ bench-words: $(BUILT)/bench
 	@$(BUILT)/bench
 
 build-tests: $(BUILT)/check $(BUILT)/bench $(SLOT_BUILT)/check $(FRAME_BUILT)/check target/tests/frame/check_reference \
-		$(RECORD_BUILT)/check $(BENCH_BUILT)/bench $(FACE_BUILT)/check $(FACE_BUILT)/from_cpp
+		$(WRITER_BUILT)/check target/tests/writer/check_reference $(RECORD_BUILT)/check $(BENCH_BUILT)/bench \
+		$(FACE_BUILT)/check $(FACE_BUILT)/from_cpp
 
 faults:
 	@$(WORDS)/faults $(CC) $(CFLAGS)
@@ -55,11 +64,14 @@ faults-slot:
 faults-frame:
 	@$(FRAME)/faults $(CC) $(CFLAGS)
 
+faults-writer:
+	@$(WRITER)/faults $(CC) $(CFLAGS)
+
 faults-record:
 	@$(RECORD)/faults $(CC) $(CFLAGS)
 
-lc3-frame: $(FRAME_READER)
-	@$(FRAME)/lc3 read $(FRAME_READER) $(CC) $(CFLAGS)
+lc3-frame: $(FRAME_READER) $(FRAME_WRITER)
+	@$(FRAME)/lc3 read $(FRAME_READER) $(FRAME_WRITER) $(CC) $(CFLAGS)
 
 list-frame:
 	@$(FRAME)/lc3 list $(CC) $(CFLAGS)
@@ -73,7 +85,7 @@ clean:
 # rt builds a program and an archive from proved crates only; it leaves alone what has not changed, hence the touch. What it
 # says goes to a file, the crates that it has done to the reader; its status goes round the pipe.
 target/bin/day: $(RATTLE) crates/day/stdin crates/day/stdout
-	@echo 'Only proved code is run, so the library is proved first: some 4 minutes on two cores where nothing is proved yet.'
+	@echo 'Only proved code is run, so the library is proved first: some 5 minutes on two cores where nothing is proved yet.'
 	@mkdir -p target
 	@{ rt check day 2>&1; echo $$? >target/day.status; } | tee target/day.log | sed -un 's/^rt: \([a-z0-9_]* proved .*\)/    \1/p'
 	@[ "$$(cat target/day.status)" = 0 ] || { tail -n 25 target/day.log >&2; exit 1; }
@@ -98,9 +110,20 @@ $(FRAME_BUILT)/check: $(FRAME)/check.c $(FRAME_PARTS) $(CASES) $(FRAME_READER) $
 	@mkdir -p $(FRAME_BUILT)
 	$(CC) $(CFLAGS) -o $@ $(filter %.c,$^) $(filter %.a,$^)
 
-# the reference alone: it wants no archive
+# the references alone: they want no archive
 target/tests/frame/check_reference: $(FRAME)/check_reference.c $(FRAME_PARTS) $(CASES) $(wildcard $(FRAME)/*.h) $(CASES:.c=.h) \
 		include/silberlaus.h
+	@mkdir -p $(@D)
+	$(CC) $(CFLAGS) -o $@ $(filter %.c,$^)
+
+$(WRITER_BUILT)/check: $(WRITER)/check.c $(WRITER_PARTS) $(CASES) $(FRAME_WRITER) \
+		$(if $(filter %.c,$(FRAME_WRITER)),$(FRAME)/stand_in.c) $(wildcard $(WRITER)/*.h $(FRAME)/*.h) $(CASES:.c=.h) \
+		include/silberlaus.h
+	@mkdir -p $(WRITER_BUILT)
+	$(CC) $(CFLAGS) -o $@ $(filter %.c,$^) $(filter %.a,$^)
+
+target/tests/writer/check_reference: $(WRITER)/check_reference.c $(WRITER_PARTS) $(CASES) $(wildcard $(WRITER)/*.h $(FRAME)/*.h) \
+		$(CASES:.c=.h) include/silberlaus.h
 	@mkdir -p $(@D)
 	$(CC) $(CFLAGS) -o $@ $(filter %.c,$^)
 
@@ -110,18 +133,20 @@ $(RECORD_BUILT)/check: $(addprefix $(RECORD)/,check.c lines.c moves.c made.c bot
 	$(CC) $(CFLAGS) -o $@ $(filter %.c,$^) $(filter %.a,$^)
 
 # Where a function starts in memory makes up to 13 % of a frame's time, so the archive's and the C's start at multiples of 64.
+# The archive is one object: what stands in for one of its functions goes before it where its names are weak.
 $(BENCH_BUILT)/aligned.a: $(FACE_ARCHIVE)
 	@mkdir -p $(BENCH_BUILT)
-	objcopy --set-section-alignment '.text.*=64' $< $@
+	objcopy $(if $(STAND_INS),--weaken) --set-section-alignment '.text.*=64' $< $@
 
 $(BENCH_BUILT)/bench: LC3_FLAGS = $(shell $(FRAME)/lc3 flags $(CC) $(CFLAGS))
 $(BENCH_BUILT)/bench: CFLAGS += -falign-functions=64
 $(BENCH_BUILT)/bench: $(wildcard $(BENCH)/*.c) $(SLOT)/damage.c $(SLOT)/reference.c $(QUICK) $(WORDS)/search.c \
-		$(addprefix $(FRAME)/,lend.c make.c reference.c) $(RECORD)/reference.c $(CASES) $(filter %.c,$(FRAME_READER)) \
-		$(BENCH_BUILT)/aligned.a \
-		$(wildcard $(addsuffix /*.h,$(BENCH) $(SLOT) $(WORDS) $(FRAME) $(RECORD))) $(CASES:.c=.h) include/silberlaus.h
+		$(addprefix $(FRAME)/,lend.c make.c reference.c) $(addprefix $(WRITER)/,again.c ask.c reference.c) \
+		$(RECORD)/reference.c $(CASES) $(STAND_INS) $(BENCH_BUILT)/aligned.a \
+		$(wildcard $(addsuffix /*.h,$(BENCH) $(SLOT) $(WORDS) $(FRAME) $(WRITER) $(RECORD))) $(CASES:.c=.h) include/silberlaus.h
 	@mkdir -p $(BENCH_BUILT)
-	$(CC) $(CFLAGS) $(if $(filter %.c,$(FRAME_READER)),-DFRAME_STAND_IN) -o $@ $(filter %.c,$^) $(filter %.a,$^) $(LC3_FLAGS)
+	$(CC) $(CFLAGS) $(if $(filter %.c,$(FRAME_READER)),-DFRAME_STAND_IN) $(if $(filter %.c,$(FRAME_WRITER)),-DWRITER_STAND_IN) \
+		-o $@ $(filter %.c,$^) $(filter %.a,$^) $(LC3_FLAGS)
 
 $(FACE_BUILT)/check: $(wildcard $(FACE)/*.c $(FACE)/*.h) $(FACE_ARCHIVE) include/silberlaus.h
 	@mkdir -p $(FACE_BUILT)

@@ -1,6 +1,7 @@
 /* Silberlaus: the path of LC3plus speech from headset to base and into the night's record (ETSI TS 103 634, Annex A.1 and
-   clause 5.4). A frame is protected in a slot; a received slot is corrected and gives its frame back; a frame is read
-   into its fields; frames are kept in a session record. What comes back is right, or it is refused by number.
+   clauses 5.3 and 5.4). A frame is written from its fields; it is protected in a slot; a received slot is corrected and
+   gives its frame back; a frame is read into its fields; frames are kept in a session record. What comes back is right, or
+   it is refused by number.
 
    Memory.  All of it is the caller's. No heap, no global state, no lock: calls may run at the same time on different
    buffers. Each pointer is good for the length beside it, and may be NULL only where that length is 0. The buffers of one
@@ -31,13 +32,15 @@ extern "C" {
 enum {
   SILBERLAUS_ACCEPTED = 0,
   SILBERLAUS_BAD_SETTING = 1,   /* a setting out of range, be it size, mode, rate, duration or form; for the record also its
-                                   used length, its entry, a place */
+                                   used length, its entry, a place; for a frame to write also a field, a line, a residual
+                                   bit */
   SILBERLAUS_BAD_LENGTH = 2,    /* a lent buffer has not the exact length named */
   SILBERLAUS_BEYOND_REPAIR = 3, /* some code word has no valid word within mode - 1 semi-octets */
   SILBERLAUS_FOREIGN = 4,       /* every word was corrected, and no frame and request make that slot */
   SILBERLAUS_BIT_ERROR = 5,     /* a bit error condition holds in the frame: see the causes */
   SILBERLAUS_NO_ROOM = 6,       /* the record, or the buffer that it is in or moved into, has no room */
-  SILBERLAUS_NOT_A_RECORD = 7   /* the bytes are no record of the form */
+  SILBERLAUS_NOT_A_RECORD = 7,  /* the bytes are no record of the form */
+  SILBERLAUS_FRAME_TOO_SMALL = 8 /* the fields and the lines need more bits than the frame has */
 };
 
 /* ---- causes: the field `cause` beside SILBERLAUS_BIT_ERROR; the first in reading order is given */
@@ -80,7 +83,7 @@ enum {
 /* Bytes of stack that a call needs at most, its return address and all that it calls included, but not a `memcpy` and a
    `memset` of your own. Measured on the archive (tests/face), and rounded up. */
 #define SILBERLAUS_STACK_SLOT 7168   /* silberlaus_frame_size, protect, unprotect */
-#define SILBERLAUS_STACK_FRAME 12288 /* silberlaus_line_count, read_frame, read_entry */
+#define SILBERLAUS_STACK_FRAME 12288 /* silberlaus_line_count, read_frame, write_frame, read_entry */
 #define SILBERLAUS_STACK_RECORD 512  /* silberlaus_record_* */
 
 /* ---- answers */
@@ -104,6 +107,11 @@ typedef struct {
   uint16_t symbols;       /* arithmetic symbols taken */
   uint32_t shape_joint;
 } silberlaus_frame;
+
+typedef struct {
+  uint8_t number;
+  uint16_t residual_bits; /* how many were sent, the first ones */
+} silberlaus_written;
 
 typedef struct {
   uint8_t number;
@@ -157,6 +165,27 @@ size_t silberlaus_line_count(uint32_t khz, uint32_t quarter_ms);
    `residual`; SILBERLAUS_BIT_ERROR with its cause. */
 silberlaus_frame silberlaus_read_frame(uint32_t khz, uint32_t quarter_ms, const uint8_t *frame, size_t frame_len,
                                        int32_t *spectrum, size_t spectrum_len, uint8_t *residual, size_t residual_len);
+
+/* Writes a frame of frame_len bytes (20 to 400) from its fields, its spectrum and its residual bits (clause 5.3.14).
+   `fields` is what silberlaus_read_frame gives; its number, cause and symbols are not looked at. `spectrum` and `residual`
+   have exactly silberlaus_line_count(khz, quarter_ms) entries each and are only read. Accepted, all of `frame` is written,
+   and reading it gives the fields and the lines back. The residual bits sent are the first ones, as many as there is room
+   for behind the rest: the answer says how many; the others are not sent, and are read as 0.
+   Refusals: SILBERLAUS_BAD_SETTING the rate, the duration, frame_len, or a field out of its range or not 0 where it is not
+   sent; LSB mode 1 too; SILBERLAUS_BAD_LENGTH `spectrum` or `residual`; SILBERLAUS_BAD_SETTING a line outside -32,767 to
+   32,767, a line not 0 at or past the last line, residual_bits other than the number of lines that are not 0, an entry of
+   `residual` above 1, or one past residual_bits that is not 0; SILBERLAUS_FRAME_TOO_SMALL the rest without any residual bit
+   needs more bits than the frame has, counted as reading counts them for SILBERLAUS_CAUSE_NO_BITS.
+
+   Ranges: bandwidth 0 to the rate's (0 at 8 kHz, 1, 2, 3, 4 at 48 kHz); last_line even, 2 to the line count; lsb_mode 0;
+   tns_flag_0 0 or 1, tns_flag_1 too where bandwidth is 3 or 4 and the duration is above 2.5 ms, else 0; pitch_present 0 or
+   1; shape_low and shape_high 0 to 31, shape_mode and shape_sign 0 or 1, shape_gain 0 to 1 in shape mode 0 and 0 to 3 in
+   mode 1, shape_joint below 33,460,056 in mode 0 and below 16,708,096 in mode 1; filter_flag 0 or 1 and pitch_index 0 to
+   511 with pitch, else 0; noise_level 0 to 7; a filter's order 1 to 4 (2.5 and 5 ms) or 1 to 8 where its flag is 1, else 0;
+   its coefficients 0 to 16 below the order, and 0 from there on. */
+silberlaus_written silberlaus_write_frame(uint32_t khz, uint32_t quarter_ms, silberlaus_frame fields,
+                                          const int32_t *spectrum, size_t spectrum_len,
+                                          const uint8_t *residual, size_t residual_len, uint8_t *frame, size_t frame_len);
 
 /* ---- the session record: entries of a frame, its request, its count and its bits, the oldest at place 0; at most 65,536
    bytes

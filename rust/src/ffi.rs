@@ -42,6 +42,12 @@ pub struct Frame {
 }
 
 #[repr(C)]
+pub struct Written {
+    pub number: u8,
+    pub residual_bits: u16,
+}
+
+#[repr(C)]
 pub struct Added {
     pub number: u8,
     pub used: u32,
@@ -94,6 +100,17 @@ unsafe extern "C" {
         residual: *mut u8,
         residual_len: usize,
     ) -> Frame;
+    fn silberlaus_write_frame(
+        khz: u32,
+        quarter_ms: u32,
+        fields: Frame,
+        spectrum: *const i32,
+        spectrum_len: usize,
+        residual: *const u8,
+        residual_len: usize,
+        frame: *mut u8,
+        frame_len: usize,
+    ) -> Written;
     fn silberlaus_record_new(form: u32, buffer: *mut u8, capacity: usize) -> u8;
     fn silberlaus_record_entries(form: u32, record: *const u8, used: usize) -> Entries;
     fn silberlaus_record_entry(form: u32, record: *const u8, used: usize, place: usize) -> Entry;
@@ -139,6 +156,20 @@ pub fn read_frame(khz: u32, quarter_ms: u32, frame: &[u8], spectrum: &mut [i32],
     let (at, to, rest) = (frame.as_ptr(), spectrum.as_mut_ptr(), residual.as_mut_ptr());
     // SAFETY: frame is good for reading, the others for writing, each for its length; exclusive slices overlap no other.
     unsafe { silberlaus_read_frame(khz, quarter_ms, at, frame.len(), to, lines, rest, bits) }
+}
+
+pub fn write_frame(
+    khz: u32,
+    quarter_ms: u32,
+    fields: Frame,
+    spectrum: &[i32],
+    residual: &[u8],
+    frame: &mut [u8],
+) -> Written {
+    let (lines, bits, length) = (spectrum.len(), residual.len(), frame.len());
+    let (from, rest, to) = (spectrum.as_ptr(), residual.as_ptr(), frame.as_mut_ptr());
+    // SAFETY: frame is good for writing, the others for reading, each for its length; an exclusive slice overlaps no other.
+    unsafe { silberlaus_write_frame(khz, quarter_ms, fields, from, lines, rest, bits, to, length) }
 }
 
 pub fn record_new(form: u32, buffer: &mut [u8]) -> u8 {

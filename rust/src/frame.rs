@@ -1,50 +1,51 @@
-//! Reading a frame (clause 5.4): 20 to 400 bytes at 8, 16, 24, 32 or 48 kHz, of 2.5, 5, 7.5 or 10 ms. The duration is in
-//! quarter milliseconds: 10, 20, 30 or 40.
+//! Reading a frame (clause 5.4) and writing one (clause 5.3.14): 20 to 400 bytes at 8, 16, 24, 32 or 48 kHz, of 2.5, 5, 7.5
+//! or 10 ms. The duration is in quarter milliseconds: 10, 20, 30 or 40.
 
 use crate::Refusal;
 use crate::ffi;
 
-/// The fields of a frame, by the clause's names; spectrum and residual bits are in the lent slices.
-#[derive(Clone, Copy, Debug, PartialEq, Eq, Hash)]
-#[non_exhaustive]
+/// The fields of a frame, by the clause's names, as [`read_frame`] gives and [`write_frame`] takes them; spectrum and residual
+/// bits are in the lent slices. Reading gives what is in these ranges, and writing refuses what is not.
+///
+/// The default is 0 everywhere and no pitch: it still wants a last line.
+#[derive(Clone, Copy, Debug, Default, PartialEq, Eq, Hash)]
 pub struct Frame {
-    /// The bandwidth, at most the rate's index.
+    /// The bandwidth, 0 to the rate's index: 0 at 8 kHz, then 1, 2, 3, and 4 at 48 kHz.
     pub bandwidth: u8,
-    /// Lines of the spectrum that were sent; from this one on all are 0.
+    /// Lines of the spectrum that are sent, an even number from 2 to all; from this one on all are 0.
     pub last_line: u16,
-    /// Whether the lines' lowest bits were sent late: then there are no residual bits.
+    /// Whether the lines' lowest bits are sent late: then there are no residual bits. It is read, and not written.
     pub lsb_mode: bool,
     /// The global gain's index.
     pub gain: u8,
-    /// The two temporal noise shaping filters; at 2.5 ms the second is never sent.
+    /// The two temporal noise shaping filters; the second is sent with bandwidth 3 or 4 only, and never at 2.5 ms.
     pub tns: [Tns; 2],
     /// The spectral shape.
     pub shape: Shape,
-    /// The long term postfilter's pitch, where one was sent.
+    /// The long term postfilter's pitch, where one is sent.
     pub pitch: Option<Pitch>,
-    /// The noise level.
+    /// The noise level, 0 to 7.
     pub noise_level: u8,
-    /// Entries of the residual slice that were sent.
+    /// Entries of the residual slice. Read: those that were sent, the first ones. To be written: one for each line that is not
+    /// 0.
     pub residual_bits: u16,
-    /// Arithmetic symbols taken.
+    /// Arithmetic symbols taken; writing does not look at it.
     pub symbols: u16,
 }
 
-/// A temporal noise shaping filter.
-#[derive(Clone, Copy, Debug, PartialEq, Eq, Hash)]
-#[non_exhaustive]
+/// A temporal noise shaping filter; one that is not sent is the default, 0 everywhere.
+#[derive(Clone, Copy, Debug, Default, PartialEq, Eq, Hash)]
 pub struct Tns {
-    /// Whether the filter was sent.
+    /// Whether the filter is sent.
     pub flag: bool,
-    /// Its order, 0 to 8; at 2.5 and 5 ms 0 to 4.
+    /// Its order, 1 to 8, at 2.5 and 5 ms 1 to 4; 0 where it is not sent.
     pub order: u8,
-    /// Its coefficients' indices; 0 from the order on.
+    /// Its coefficients' indices, 0 to 16; 0 from the order on.
     pub coefficients: [u8; 8],
 }
 
 /// The spectral shape: 38 bits.
-#[derive(Clone, Copy, Debug, PartialEq, Eq, Hash)]
-#[non_exhaustive]
+#[derive(Clone, Copy, Debug, Default, PartialEq, Eq, Hash)]
 pub struct Shape {
     /// The first five bits sent.
     pub low: u8,
@@ -56,13 +57,12 @@ pub struct Shape {
     pub gain: u8,
     /// The sign bit.
     pub sign: u8,
-    /// The joint index: 25 bits with mode bit 0, 24 bits with 1.
+    /// The joint index: 25 bits and below 33,460,056 with mode bit 0, 24 bits and below 16,708,096 with 1.
     pub joint: u32,
 }
 
 /// The pitch of the long term postfilter.
-#[derive(Clone, Copy, Debug, PartialEq, Eq, Hash)]
-#[non_exhaustive]
+#[derive(Clone, Copy, Debug, Default, PartialEq, Eq, Hash)]
 pub struct Pitch {
     /// Whether the filter is active.
     pub filter_flag: bool,
@@ -125,6 +125,78 @@ pub fn read_frame(
     Frame::of(ffi::read_frame(khz, quarter_ms, frame, spectrum, residual))
 }
 
+/// Writes a frame of the slice's length, 20 to 400 bytes, from its fields, its spectrum and its residual bits, and gives how
+/// many of these were sent.
+///
+/// The duration is in quarter milliseconds. `spectrum` and `residual` have exactly [`line_count`]`(khz, quarter_ms)` entries
+/// each: the lines, -32,767 to 32,767, and 0 from the last line on; a residual bit, 0 or 1, for each line that is not 0, then
+/// 0. `fields.residual_bits` says how many these are; a frame that was read may say fewer, where not all of them were sent.
+///
+/// Accepted, all of the frame is written, and [`read_frame`] gives the fields and the lines back. The residual bits sent are
+/// the first ones, as many as there is room for behind the rest; the others are read as 0, and the `residual_bits` that are
+/// read do not count them.
+///
+/// # Errors
+///
+/// [`Refusal::BadSetting`] the rate, the duration, the frame's length, or a field out of its range (see [`Frame`]), LSB mode
+/// too; [`Refusal::BadLength`] `spectrum` or `residual`; [`Refusal::BadSetting`] a line out of its range, or not 0 at or past
+/// the last line, `residual_bits` other than the number of lines that are not 0, an entry of `residual` above 1, or one past
+/// `residual_bits` that is not 0; [`Refusal::FrameTooSmall`] the rest without any residual bit needs more bits than the frame
+/// has.
+///
+/// A frame's fields are written, protected, repaired and read:
+///
+/// ```
+/// use silberlaus::{Frame, Pitch, Refusal, Shape, Tns, protect, read_frame, unprotect, write_frame};
+///
+/// let (mut spectrum, mut residual) = ([0; 160], [0; 160]);
+/// spectrum[..6].copy_from_slice(&[2, -1, 0, 5, 0, -1]);
+/// residual[..4].copy_from_slice(&[1, 0, 1, 1]); // four lines are not 0
+/// let fields = Frame {
+///     bandwidth: 1,
+///     last_line: 6,
+///     gain: 200,
+///     tns: [Tns { flag: true, order: 2, coefficients: [8, 9, 0, 0, 0, 0, 0, 0] }, Tns::default()],
+///     shape: Shape { low: 3, high: 17, gain: 1, joint: 1_000_000, ..Shape::default() },
+///     pitch: Some(Pitch { filter_flag: true, index: 389 }),
+///     noise_level: 5,
+///     residual_bits: 4,
+///     ..Frame::default()
+/// };
+/// let (mut frame, mut slot) = ([0; 53], [0; 80]);
+/// assert_eq!(write_frame(16, 40, &fields, &spectrum, &residual, &mut frame)?, 4);
+/// protect(3, 1, &frame, &mut slot)?;
+///
+/// slot[9] ^= 0x40; // the air
+///
+/// let mut heard = [0; 53];
+/// assert_eq!(unprotect(3, &slot, &mut heard)?.semi_octets, 1);
+/// let (mut lines, mut bits) = ([0; 160], [0; 160]);
+/// let got = read_frame(16, 40, &heard, &mut lines, &mut bits)?;
+/// assert_eq!(got, Frame { symbols: 7, ..fields });
+/// assert_eq!((lines, bits), (spectrum, residual));
+///
+/// // at 5 ms there are half as many lines
+/// assert_eq!(write_frame(16, 20, &fields, &spectrum, &residual, &mut frame), Err(Refusal::BadLength));
+/// spectrum[..4].fill(32_767);
+/// let fields = Frame { residual_bits: 5, ..fields };
+/// assert_eq!(write_frame(16, 40, &fields, &spectrum, &[0; 160], &mut frame[..20]), Err(Refusal::FrameTooSmall));
+/// assert_eq!(frame, heard, "a refusal leaves the frame as it was");
+/// # Ok::<(), Refusal>(())
+/// ```
+pub fn write_frame(
+    khz: u32,
+    quarter_ms: u32,
+    fields: &Frame,
+    spectrum: &[i32],
+    residual: &[u8],
+    frame: &mut [u8],
+) -> Result<u16, Refusal> {
+    let answer = ffi::write_frame(khz, quarter_ms, fields.lent(), spectrum, residual, frame);
+    Refusal::of(answer.number, 0)?;
+    Ok(answer.residual_bits)
+}
+
 impl Frame {
     pub(crate) fn of(answer: ffi::Frame) -> Result<Frame, Refusal> {
         Refusal::of(answer.number, answer.cause)?;
@@ -159,5 +231,36 @@ impl Frame {
             residual_bits: answer.residual_bits,
             symbols: answer.symbols,
         })
+    }
+
+    /// The fields as they are lent to be written: of an accepted frame what [`Frame::of`] was given.
+    fn lent(&self) -> ffi::Frame {
+        let pitch = self.pitch.unwrap_or_default();
+        ffi::Frame {
+            number: 0,
+            cause: 0,
+            bandwidth: self.bandwidth,
+            lsb_mode: self.lsb_mode.into(),
+            gain: self.gain,
+            tns_flag_0: self.tns[0].flag.into(),
+            tns_flag_1: self.tns[1].flag.into(),
+            pitch_present: self.pitch.is_some().into(),
+            shape_low: self.shape.low,
+            shape_high: self.shape.high,
+            shape_mode: self.shape.mode,
+            shape_gain: self.shape.gain,
+            shape_sign: self.shape.sign,
+            filter_flag: pitch.filter_flag.into(),
+            noise_level: self.noise_level,
+            tns_order_0: self.tns[0].order,
+            tns_order_1: self.tns[1].order,
+            tns_coefficients_0: self.tns[0].coefficients,
+            tns_coefficients_1: self.tns[1].coefficients,
+            last_line: self.last_line,
+            pitch_index: pitch.index,
+            residual_bits: self.residual_bits,
+            symbols: self.symbols,
+            shape_joint: self.shape.joint,
+        }
     }
 }

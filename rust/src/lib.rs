@@ -1,12 +1,12 @@
 //! Silberlaus: the path of LC3plus speech from headset to base and into the night's record (ETSI TS 103 634, Annex A.1
-//! and clause 5.4), as safe functions over memory that the caller lends. What comes back is right, or it is refused by
-//! number. No heap, no global state, no `std`.
+//! and clauses 5.3 and 5.4), as safe functions over memory that the caller lends. What comes back is right, or it is refused
+//! by number. No heap, no global state, no `std`.
 //!
 //! The work is done by code that is written in Rattle and proved; this crate hands it slices and gives its answers names.
 //! A refusal leaves every lent byte as it was. `include/silberlaus.h` of the repository says what a call needs of the
 //! stack.
 //!
-//! A frame is sent, damaged on the way, received, and kept:
+//! A frame is sent, damaged on the way, received, and kept ([`write_frame`] has an example from its fields to its fields):
 //!
 //! ```
 //! use silberlaus::{frame_size, protect, record, unprotect};
@@ -39,6 +39,6 @@ pub mod record;
 mod refusal;
 mod slot;
 
-pub use frame::{Frame, Pitch, Shape, Tns, line_count, read_frame};
+pub use frame::{Frame, Pitch, Shape, Tns, line_count, read_frame, write_frame};
 pub use refusal::{Cause, Refusal};
 pub use slot::{Unprotected, frame_size, protect, unprotect};

@@ -16,7 +16,8 @@ use core::fmt;
 #[derive(Clone, Copy, Debug, PartialEq, Eq, Hash)]
 #[non_exhaustive]
 pub enum Refusal {
-    /// 1: a setting is out of range; for the record also its used length, its entry or a place.
+    /// 1: a setting is out of range; for the record also its used length, its entry or a place; for a frame to write also a
+    /// field, a line or a residual bit.
     BadSetting,
     /// 2: a slice has not the exact length named.
     BadLength,
@@ -30,6 +31,8 @@ pub enum Refusal {
     NoRoom,
     /// 7: the bytes are no record of the form.
     NotARecord,
+    /// 8: the fields and the lines need more bits than the frame has.
+    FrameTooSmall,
 }
 
 /// Which bit error condition holds in a frame: the first in reading order.
@@ -77,6 +80,7 @@ impl Refusal {
             Refusal::BitError(_) => 5,
             Refusal::NoRoom => 6,
             Refusal::NotARecord => 7,
+            Refusal::FrameTooSmall => 8,
         }
     }
 
@@ -91,7 +95,8 @@ impl Refusal {
             5 => Err(Refusal::BitError(Cause::of(cause))),
             6 => Err(Refusal::NoRoom),
             7 => Err(Refusal::NotARecord),
-            _ => unreachable!("a number from 0 to 7"),
+            8 => Err(Refusal::FrameTooSmall),
+            _ => unreachable!("a number from 0 to 8"),
         }
     }
 }
@@ -122,6 +127,7 @@ impl fmt::Display for Refusal {
             Refusal::BitError(cause) => write!(f, "5: bit error, cause {}: {cause}", *cause as u8),
             Refusal::NoRoom => f.write_str("6: the record has no room"),
             Refusal::NotARecord => f.write_str("7: the bytes are no record"),
+            Refusal::FrameTooSmall => f.write_str("8: the frame is too small"),
         }
     }
 }

@@ -1,6 +1,9 @@
 //! Every refusal of the safe functions, in its order, and that a refusal leaves every lent byte.
 
-use silberlaus::{Cause, Frame, Refusal, frame_size, line_count, protect, read_frame, record, unprotect};
+use silberlaus::{
+    Cause, Frame, Pitch, Refusal, Shape, Tns, frame_size, line_count, protect, read_frame, record, unprotect,
+    write_frame,
+};
 
 const MODE: u32 = 3;
 const FRAME: [u8; 53] = [0x21; 53];
@@ -331,5 +334,194 @@ fn read_entry_refuses_1_then_2_then_7_then_1_then_5() {
                 Refusal::BitError(Cause::Bandwidth)
             );
         }
+    }
+}
+
+/// A frame to be written at 48 kHz: its fields, its spectrum, its residual bits and its length.
+#[derive(Clone)]
+struct ToWrite {
+    fields: Frame,
+    spectrum: Vec<i32>,
+    residual: Vec<u8>,
+    length: usize,
+}
+
+impl ToWrite {
+    /// Every line is as large as it can be, far too much for 20 bytes; nothing else is wrong.
+    fn too_much(quarter_ms: u32) -> ToWrite {
+        let all = line_count(48, quarter_ms).unwrap();
+        let filter = Tns { flag: true, order: 2, coefficients: [16, 16, 0, 0, 0, 0, 0, 0] };
+        let fields = Frame {
+            bandwidth: 4,
+            last_line: all as u16,
+            gain: 255,
+            tns: [filter, if quarter_ms == 10 { Tns::default() } else { filter }],
+            shape: Shape { low: 31, high: 31, mode: 0, gain: 1, sign: 1, joint: 33_460_055 },
+            pitch: Some(Pitch { filter_flag: true, index: 511 }),
+            noise_level: 7,
+            residual_bits: all as u16,
+            ..Frame::default()
+        };
+        ToWrite { fields, spectrum: vec![-32_767; all], residual: vec![1; all], length: 20 }
+    }
+
+    /// Every line is 0, and there is room.
+    fn little(quarter_ms: u32) -> ToWrite {
+        let mut little = ToWrite::too_much(quarter_ms);
+        (little.fields.last_line, little.fields.residual_bits, little.length) = (2, 0, 60);
+        little.spectrum.fill(0);
+        little.residual.fill(0);
+        little
+    }
+
+    /// Another line, and as many residual bits as there are lines that are not 0.
+    fn line(&mut self, at: usize, line: i32) {
+        self.spectrum[at] = line;
+        self.fields.residual_bits = self.spectrum.iter().filter(|&&line| line != 0).count() as u16;
+    }
+
+    /// The same, changed.
+    fn but(&self, change: impl Fn(&mut ToWrite)) -> ToWrite {
+        let mut changed = self.clone();
+        change(&mut changed);
+        changed
+    }
+
+    /// Writes it into a frame, which has to stay where that is refused.
+    fn write(&self, khz: u32, quarter_ms: u32) -> Result<u16, Refusal> {
+        let mut frame = vec![0xa5; self.length];
+        let answer = write_frame(khz, quarter_ms, &self.fields, &self.spectrum, &self.residual, &mut frame);
+        assert!(answer.is_ok() || frame.iter().all(|&byte| byte == 0xa5));
+        answer
+    }
+}
+
+type Change = fn(&mut ToWrite);
+
+/// A length or a field that is out of range at every duration.
+const OUT_OF_RANGE: [Change; 34] = [
+    |w| w.length = 0,
+    |w| w.length = 19,
+    |w| w.length = 401,
+    |w| w.length = 65536 + 20,
+    |w| w.fields.bandwidth = 5,
+    |w| w.fields.bandwidth = 255,
+    |w| w.fields.last_line = 0,
+    |w| w.fields.last_line = 1,
+    |w| w.fields.last_line = 3,
+    |w| w.fields.last_line = w.spectrum.len() as u16 + 2,
+    |w| w.fields.last_line = 65534,
+    |w| w.fields.lsb_mode = true,
+    |w| w.fields.tns[0].flag = false,
+    |w| w.fields.tns[0] = Tns { flag: true, ..Tns::default() },
+    |w| w.fields.tns[0] = Tns { order: 1, ..Tns::default() },
+    |w| w.fields.tns[0] = Tns { coefficients: [8; 8], ..Tns::default() },
+    |w| w.fields.tns[0].order = 1,
+    |w| w.fields.tns[0].order = 9,
+    |w| w.fields.tns[0].coefficients[1] = 17,
+    |w| w.fields.tns[0].coefficients[2] = 8,
+    |w| w.fields.tns[1] = Tns { flag: true, ..Tns::default() },
+    |w| w.fields.tns[1] = Tns { order: 1, ..Tns::default() },
+    |w| w.fields.tns[1].coefficients[7] = 1,
+    |w| (w.fields.bandwidth, w.fields.tns[1]) = (2, w.fields.tns[0]),
+    |w| w.fields.shape.low = 32,
+    |w| w.fields.shape.high = 32,
+    |w| w.fields.shape.mode = 2,
+    |w| w.fields.shape.gain = 2,
+    |w| w.fields.shape = Shape { mode: 1, gain: 4, ..Shape::default() },
+    |w| w.fields.shape.sign = 2,
+    |w| w.fields.shape.joint = 33_460_056,
+    |w| w.fields.shape = Shape { mode: 1, joint: 16_708_096, ..Shape::default() },
+    |w| w.fields.pitch = Some(Pitch { filter_flag: false, index: 512 }),
+    |w| w.fields.noise_level = 8,
+];
+
+/// A slice that has not its exact length.
+const BAD_LENGTHS: [Change; 6] = [
+    |w| w.spectrum.push(0),
+    |w| w.spectrum.truncate(w.spectrum.len() - 1),
+    |w| w.spectrum.clear(),
+    |w| w.residual.push(0),
+    |w| w.residual.truncate(w.residual.len() - 1),
+    |w| w.residual.clear(),
+];
+
+/// A line out of range, at the last line or past it; residual bits that are not those of the lines.
+const BAD_LINES: [Change; 12] = [
+    |w| w.line(0, 32_768),
+    |w| w.line(1, -32_768),
+    |w| w.line(1, i32::MIN),
+    |w| w.line(0, 65_536 + 1),
+    |w| {
+        w.fields.last_line = 2;
+        w.line(2, 1);
+    },
+    |w| {
+        w.fields.last_line = w.spectrum.len() as u16 - 2;
+        w.line(w.spectrum.len() - 1, -1);
+    },
+    |w| w.fields.residual_bits += 1,
+    |w| w.fields.residual_bits = u16::MAX,
+    |w| {
+        w.line(0, 1);
+        w.fields.residual_bits -= 1;
+    },
+    |w| {
+        w.line(0, 1);
+        w.residual[0] = 2;
+    },
+    |w| {
+        w.line(0, 1);
+        w.residual[0] = 255;
+    },
+    |w| {
+        w.line(1, 0);
+        w.residual[usize::from(w.fields.residual_bits)] = 1;
+    },
+];
+
+#[test]
+fn write_frame_refuses_1_then_2_then_1_then_8() {
+    for q in DURATIONS {
+        for (lent, answer) in [(ToWrite::too_much(q), Err(Refusal::FrameTooSmall)), (ToWrite::little(q), Ok(0))] {
+            assert_eq!(lent.write(48, q), answer);
+            for (at, lines) in BAD_LINES.iter().enumerate() {
+                let lent = lent.but(lines);
+                assert_eq!(lent.write(48, q), Err(Refusal::BadSetting), "{at}");
+                for of_length in BAD_LENGTHS {
+                    assert_eq!(lent.but(of_length).write(48, q), Err(Refusal::BadLength), "{at}");
+                }
+            }
+            for of_length in BAD_LENGTHS {
+                let lent = lent.but(of_length);
+                assert_eq!(lent.write(48, q), Err(Refusal::BadLength));
+                for khz in [0, 44, 256 + 48, u32::MAX] {
+                    assert_eq!(lent.write(khz, q), Err(Refusal::BadSetting));
+                }
+                for quarter_ms in NO_DURATIONS {
+                    assert_eq!(lent.write(48, quarter_ms), Err(Refusal::BadSetting));
+                }
+            }
+            for (at, field) in OUT_OF_RANGE.iter().enumerate() {
+                let lent = lent.but(field);
+                assert_eq!(lent.write(48, q), Err(Refusal::BadSetting), "{at}");
+                for of_length in BAD_LENGTHS {
+                    assert_eq!(lent.but(of_length).write(48, q), Err(Refusal::BadSetting), "{at}");
+                }
+            }
+        }
+    }
+}
+
+#[test]
+fn write_frame_takes_the_filters_of_the_duration() {
+    for q in DURATIONS {
+        for order in 2..=8 {
+            let lent = ToWrite::little(q).but(|w| w.fields.tns[0].order = order);
+            let answer = if q <= 20 && order > 4 { Err(Refusal::BadSetting) } else { Ok(0) };
+            assert_eq!(lent.write(48, q), answer, "{q} {order}");
+        }
+        let lent = ToWrite::little(q).but(|w| w.fields.tns[1] = w.fields.tns[0]);
+        assert_eq!(lent.write(48, q), if q == 10 { Err(Refusal::BadSetting) } else { Ok(0) });
     }
 }

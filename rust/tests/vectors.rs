@@ -1,10 +1,12 @@
-//! Every line of the six lists (README.md in tests/slot, tests/frame and tests/record of the repository) through the safe
-//! functions.
+//! Every line of the seven lists (README.md in tests/slot, tests/frame, tests/writer and tests/record of the repository)
+//! through the safe functions.
 
 use std::fs;
 use std::path::Path;
 
-use silberlaus::{Frame, Refusal, frame_size, line_count, protect, read_frame, record, unprotect};
+use silberlaus::{
+    Frame, Pitch, Refusal, Shape, Tns, frame_size, line_count, protect, read_frame, record, unprotect, write_frame,
+};
 
 fn list(name: &str) -> Vec<Vec<String>> {
     let path = Path::new(env!("CARGO_MANIFEST_DIR")).join("../tests").join(name);
@@ -117,6 +119,12 @@ fn listed(frame: &Frame) -> Vec<String> {
     fields
 }
 
+/// Digits with nothing between them; `-` is none. Those that are not there are 0.
+fn digits(text: &str, count: usize) -> Vec<u8> {
+    let digits = text.bytes().filter(|&digit| digit != b'-').map(|digit| digit - b'0');
+    digits.chain(std::iter::repeat(0)).take(count).collect()
+}
+
 /// A frame of that rate and duration; `line` is the rest of its line, from the frame on.
 fn frame_line(khz: u32, quarter_ms: u32, line: &[String]) {
     let frame = bytes(&line[0]);
@@ -126,8 +134,7 @@ fn frame_line(khz: u32, quarter_ms: u32, line: &[String]) {
         Ok(fields) => {
             assert_eq!(line[1..3], ["0", "0"]);
             assert_eq!(listed(&fields), line[3..25]);
-            let bits = line[25].bytes().filter(|&bit| bit != b'-').map(|bit| bit - b'0');
-            assert_eq!(residual, bits.chain(std::iter::repeat(0)).take(count).collect::<Vec<_>>());
+            assert_eq!(residual, digits(&line[25], count));
             assert_eq!(spectrum, numbers::<400>(&line[26])[..count]);
         }
         Err(refusal) => {
@@ -163,6 +170,81 @@ fn reads_as_entry(khz: u32, quarter_ms: u32, frame: &[u8], spectrum: &[i32], res
         assert_eq!(record::read(form, whole, 0, khz, quarter_ms, &mut lines, &mut bits), alone);
         assert_eq!((&lines[..], &bits[..]), (spectrum, residual));
     }
+}
+
+/// The fields of a line, from the bandwidth to the number of residual bits. `None` where C lends what no `Frame` holds: a flag
+/// above 1, or something of a pitch that is not there.
+fn given(line: &[String]) -> Option<Frame> {
+    let flags = [2, 4, 5, 6, 13].map(|at| number::<u8>(&line[at]));
+    let pitch = Pitch { filter_flag: flags[4] == 1, index: number(&line[14]) };
+    let filter = |at: usize| Tns {
+        flag: flags[1 + at] == 1,
+        order: number(&line[16 + at]),
+        coefficients: numbers::<8>(&line[18 + at]).map(|index| index.try_into().unwrap()),
+    };
+    if flags.iter().any(|&flag| flag > 1) || flags[3] == 0 && pitch != Pitch::default() {
+        return None;
+    }
+    Some(Frame {
+        bandwidth: number(&line[0]),
+        last_line: number(&line[1]),
+        lsb_mode: flags[0] == 1,
+        gain: number(&line[3]),
+        tns: [filter(0), filter(1)],
+        shape: Shape {
+            low: number(&line[7]),
+            high: number(&line[8]),
+            mode: number(&line[9]),
+            gain: number(&line[10]),
+            sign: number(&line[11]),
+            joint: number(&line[12]),
+        },
+        pitch: (flags[3] == 1).then_some(pitch),
+        noise_level: number(&line[15]),
+        residual_bits: number(&line[20]),
+        symbols: 0,
+    })
+}
+
+/// Symbols of a frame that was written: an order and as many coefficients for each filter, an escape for each halving of a pair
+/// and one more.
+fn symbols_of(fields: &Frame, spectrum: &[i32]) -> u16 {
+    let filters = fields.tns.iter().filter(|filter| filter.flag).map(|filter| 1 + u16::from(filter.order));
+    let pairs = spectrum[..fields.last_line.into()].chunks(2);
+    let halvings = pairs.map(|pair| (pair[0].abs() | pair[1].abs() | 2).ilog2() - 1);
+    filters.sum::<u16>() + halvings.map(|halvings| halvings as u16 + 1).sum::<u16>()
+}
+
+/// Whether a call can be made of the line. A frame that is written reads back: all but the residual bits that were not sent.
+fn write_line(line: &[String]) -> bool {
+    let (khz, quarter_ms, length) = (number(&line[0]), number(&line[1]), number(&line[2]));
+    let Some(fields) = given(&line[3..24]) else {
+        assert_eq!(line[28..], ["1", "0", "-"]);
+        return false;
+    };
+    let spectrum = &numbers::<400>(&line[26])[..number(&line[24])];
+    let mut residual = digits(&line[27], number(&line[25]));
+    let mut frame = vec![0xa5; length];
+    let (got, sent) = number_and(write_frame(khz, quarter_ms, &fields, spectrum, &residual, &mut frame));
+    assert_eq!((got, sent.unwrap_or(0)), (number(&line[28]), number(&line[29])));
+    let Some(sent) = sent else {
+        assert_eq!((&line[30][..], frame), ("-", vec![0xa5; length]));
+        return true;
+    };
+    assert_eq!(frame, bytes(&line[30]));
+    let (mut lines, mut bits) = (vec![-7; spectrum.len()], vec![0xa5; residual.len()]);
+    let back = read_frame(khz, quarter_ms, &frame, &mut lines, &mut bits);
+    assert_eq!(back, Ok(Frame { residual_bits: sent, symbols: symbols_of(&fields, spectrum), ..fields }));
+    residual[sent.into()..].fill(0);
+    assert_eq!((&lines[..], bits), (spectrum, residual));
+    true
+}
+
+#[test]
+fn write_frames_list() {
+    let lines = list("writer/write_frames.txt");
+    let left_out = lines.iter().filter(|line| !write_line(line)).count();
+    assert_eq!((lines.len(), left_out), (407, 10));
 }
 
 /// The number of an answer, and what it holds where it is 0.

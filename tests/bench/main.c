@@ -6,8 +6,8 @@
 #include <time.h>
 
 #include "../common/said.h"
+#include "frames.h"
 #include "parts.h"
-#include "timing.h"
 
 int main(int argc, char **argv)
 {
@@ -21,7 +21,9 @@ int main(int argc, char **argv)
                 "Both get the same inputs, and what they leave is compared after every turn. No buffer is cleared between\n"
                 "calls.\n", date, RUNS, __VERSION__));
     bench_slots();
-    bench_frames(argc > 1 ? argv[1] : "tests/frame");
+    frames_prepare(argc > 1 ? argv[1] : "tests/frame");
+    bench_reading();
+    bench_writing();
     bench_records();
     print_slower();
     all_said();

@@ -50,7 +50,7 @@ void time_work(const work *w, ns *best)
 }
 
 /* ---- ratios, as hundredths, so that what is named at the end is what the rows show */
-enum { MOST_RATIOS = 128, NAME = 64, EQUAL = 100, ALLOWED = 150 };
+enum { MOST_RATIOS = 256, NAME = 64, EQUAL = 100, ALLOWED = 150 };
 static struct { char name[NAME]; int hundredths; } ratios[MOST_RATIOS];
 static size_t count;
 

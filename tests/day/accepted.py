@@ -11,7 +11,11 @@ class Frame(NamedTuple):
     quarters: int  # the duration, in quarter milliseconds
     data: bytes
     last_line: int
+    lsb_mode: int
+    orders: tuple  # of the TNS filters, 0 where the flag is
     symbols: int
+    residual_bits: int
+    spectrum: tuple  # up to the last line
 
 
 def listed(name, quarters=None):
@@ -20,7 +24,8 @@ def listed(name, quarters=None):
         khz, *fields = line.split()
         duration = quarters or int(fields.pop(0))
         if fields[1] == "0":
-            yield Frame(int(khz), duration, bytes.fromhex(fields[0]), int(fields[4]), int(fields[23]))
+            yield Frame(int(khz), duration, bytes.fromhex(fields[0]), int(fields[4]), int(fields[5]), tuple(map(int, fields[19:21])),
+                        int(fields[23]), int(fields[24]), tuple(map(int, fields[26].split(","))))
 
 
 def frames():

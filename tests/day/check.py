@@ -41,11 +41,29 @@ def changed_bits(place, changes):
     return sum(bin((place + i) % 15 + 1).count("1") for i in range(changes))
 
 
+def writable(frame):
+    """Whether a frame can be written from its fields: LSB mode 0, and a residual bit for each line that is not 0."""
+    return frame.lsb_mode == 0 and frame.residual_bits == sum(line != 0 for line in frame.spectrum)
+
+
+def level(a, b):
+    """The escapes of a pair of magnitudes: it is halved while one of them is 4 or more."""
+    return 0 if max(a, b) < 4 else 1 + level(a // 2, b // 2)
+
+
+def symbols_sent(frame):
+    """The symbols of a frame as it is sent: written from its fields it has no escapes but those that its lines need."""
+    if not writable(frame):
+        return frame.symbols
+    lines = [abs(line) for line in frame.spectrum]
+    return sum(1 + order for order in frame.orders if order) + sum(1 + level(a, b) for a, b in zip(lines[::2], lines[1::2]))
+
+
 def counted(room):
     """What the report must say, by the words of its lines, and the entries of the record, which is of form 2 and has so many bytes;
     refusals 3 and 4 are one sum."""
     sent, ways, entries, used = {2: 0, 3: 0, 4: 0}, [0] * 4, [], 5
-    total = dict(left=0, changed=0, bits=0, lines=0, symbols=0, refused=0)
+    total = dict(left=0, anew=0, changed=0, bits=0, lines=0, symbols=0, refused=0)
     for place, frame in enumerate(FRAMES):
         length = len(frame.data)
         slot = slot_for(length)
@@ -55,6 +73,7 @@ def counted(room):
         size, mode = slot
         way = place // 4 % 4
         changes = (0, 1 + place % 5, (mode - 1) * words(size), mode * words(size))[way]
+        total["anew"] += writable(frame)
         sent[mode] += 1
         ways[way] += 1
         if way == 3:
@@ -63,7 +82,7 @@ def counted(room):
         total["changed"] += changes
         total["bits"] += changed_bits(place, changes)
         total["lines"] += frame.last_line
-        total["symbols"] += frame.symbols
+        total["symbols"] += symbols_sent(frame)
         if used + length + 6 > room:
             break
         used += length + 6
@@ -94,6 +113,8 @@ def check_report(text):
     accepted = sum(ways[:3])
     expect("the sample is counted", by["The sample"] == [len(FRAMES), total["left"], sum(sent.values()),
                                                          len(FRAMES) - total["left"] - sum(sent.values())])
+    expect("frames written anew, and those sent as they are",
+           by["Frames sent, by how the headset has them"] == [total["anew"], sum(sent.values()) - total["anew"]])
     expect("slots by mode", by["Slots sent, by mode"] == [sent[2], sent[3], sent[4]])
     expect("slots by what happens on the way", by["Slots sent, by what happens on the way"] == ways)
     expect("clean, repaired and how much", by["Slots accepted"] == [ways[0], ways[1] + ways[2], total["changed"], total["bits"]])

@@ -1,6 +1,7 @@
 /* Calls every function of include/silberlaus.h as compiled: what each accepts, all its refusals in their order, the bytes
    in and around every lent buffer; the layout of the structs, and the stack that a call needs. Whether the answers are
-   right for all kinds of input is tested in tests/slot, tests/frame and tests/record, against other implementations.
+   right for all kinds of input is tested in tests/slot, tests/frame, tests/writer and tests/record, against other
+   implementations.
    A line for each group; it ends with status 1 where an expectation was wrong. */
 #include <stdio.h>
 #include <string.h>
@@ -73,6 +74,7 @@ int main(void)
     EXPECT(silberlaus_protect(SIZE, MODE, REQUEST, frame, FRAME_SIZE, slot, SIZE) == SILBERLAUS_ACCEPTED);
     group(slot_calls, "slots: frame size, protect, unprotect, and their refusals");
     group(frame_calls, "frames: line count, read frame, read entry, and their refusals");
+    group(write_calls, "frames: write frame, and its refusals");
     group(record_calls, "records: new, entries, entry, add, moves, and their refusals");
     group(layouts, "structs: every field where the library puts it");
     group(stacks, "stack: no call needs more than the header says");

@@ -48,6 +48,7 @@ extern const struct frame_field frame_fields[FRAME_FIELDS];
 /* The groups of cases. */
 void slot_calls(void);
 void frame_calls(void);
+void write_calls(void);
 void record_calls(void);
 void layouts(void);
 void stacks(void);

@@ -1,9 +1,27 @@
 // The header as C++ takes it: a slot is protected, damaged, unprotected, its frame kept in a record and read there, and the
-// record moved to form 1 and back.
+// record moved to form 1 and back. A frame is written and read.
 #include <array>
 #include <cstdio>
 
 #include "silberlaus.h"
+
+static bool written_and_read()
+{
+    std::array<uint8_t, SILBERLAUS_FRAME_MIN> small{};
+    std::array<int32_t, SILBERLAUS_LINES_MAX> lines{};
+    std::array<uint8_t, SILBERLAUS_LINES_MAX> bits{};
+    silberlaus_frame f{};
+    f.last_line = 2;
+    f.gain = 200;
+    f.residual_bits = 1;
+    lines[1] = -3;
+    silberlaus_written w = silberlaus_write_frame(48, 40, f, lines.data(), lines.size(), bits.data(), bits.size(),
+                                                  small.data(), small.size());
+    lines.fill(0);
+    f = silberlaus_read_frame(48, 40, small.data(), small.size(), lines.data(), lines.size(), bits.data(), bits.size());
+    return w.number == SILBERLAUS_ACCEPTED && w.residual_bits == 1 && f.number == SILBERLAUS_ACCEPTED && f.last_line == 2
+           && f.gain == 200 && f.residual_bits == 1 && lines[0] == 0 && lines[1] == -3;
+}
 
 int main()
 {
@@ -31,7 +49,8 @@ int main()
                  && silberlaus_record_entries(2, record.data(), a.used).entries == 1 && e.length == 343 && e.count == 1
                  && e.bits == 1 && silberlaus_record_entry(2, record.data(), a.used, 1).number == SILBERLAUS_BAD_SETTING
                  && to_1.used == 351 && o.length == 343 && o.bits == SILBERLAUS_BITS_UNKNOWN && to_2.used == a.used
-                 && lines == spectrum.size() && f.number == g.number && f.cause == g.cause;
+                 && lines == spectrum.size() && f.number == g.number && f.cause == g.cause
+                 && written_and_read();
     std::puts(right ? "from C++: as it should be" : "from C++: WRONG");
     return right ? 0 : 1;
 }

@@ -6,6 +6,7 @@
 #include "check.h"
 
 _Static_assert(sizeof(silberlaus_unprotected) == 6, "six bytes, one register");
+_Static_assert(sizeof(silberlaus_written) == 4, "four bytes, one register");
 _Static_assert(sizeof(silberlaus_added) == 8, "eight bytes, one register");
 _Static_assert(sizeof(silberlaus_entries) == 8, "eight bytes, one register");
 _Static_assert(sizeof(silberlaus_entry) == 12, "twelve bytes, two registers");
@@ -28,6 +29,8 @@ registers raw_add(uint8_t *, size_t, size_t, const uint8_t *, size_t, uint32_t, 
                   uint32_t) __asm__("silberlaus_record_add");
 registers raw_to_form_2(const uint8_t *, size_t, uint8_t *, size_t) __asm__("silberlaus_record_to_form_2");
 registers raw_to_form_1(const uint8_t *, size_t, uint8_t *, size_t) __asm__("silberlaus_record_to_form_1");
+registers raw_write_frame(uint32_t, uint32_t, silberlaus_frame, const int32_t *, size_t, const uint8_t *, size_t, uint8_t *,
+                          size_t) __asm__("silberlaus_write_frame");
 void *raw_read_frame(void *, uint32_t, uint32_t, const uint8_t *, size_t, int32_t *, size_t, uint8_t *,
                      size_t) __asm__("silberlaus_read_frame");
 
@@ -141,6 +144,24 @@ static void frame_of(const sample *s, uint8_t paint)
     }
 }
 
+/* The most residual bits, which take more than one byte. That the fields are taken where the header has them is seen where the
+   samples are written again (writing.c): a struct that is given stands on the stack, whole. */
+static void written(void)
+{
+    typedef silberlaus_written S;
+    enum { LINES = SILBERLAUS_LINES_MAX };
+    static int32_t spectrum[LINES];
+    static const uint8_t residual[LINES];
+    const silberlaus_frame fields = {.last_line = LINES, .residual_bits = LINES};
+    uint8_t room[SILBERLAUS_FRAME_MAX];
+    for (size_t k = 0; k < LINES; k++)
+        spectrum[k] = 1;
+    registers r = raw_write_frame(48, 40, fields, spectrum, LINES, residual, LINES, room, SILBERLAUS_FRAME_MAX);
+    ARE(r, FIELD(S, number, 0), FIELD(S, residual_bits, LINES));
+    r = raw_write_frame(48, 40, fields, spectrum, LINES, residual, LINES, room, SILBERLAUS_FRAME_MIN);
+    ARE(r, FIELD(S, number, SILBERLAUS_FRAME_TOO_SMALL), FIELD(S, residual_bits, 0));
+}
+
 void layouts(void)
 {
     for (size_t k = 0; k < SAMPLES; k++) {
@@ -148,6 +169,7 @@ void layouts(void)
         frame_of(&samples[k], 0xff);
     }
     unprotected();
+    written();
     added();
     moves();
     entries();

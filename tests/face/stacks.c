@@ -66,6 +66,15 @@ static void read_frame(void)
     kept = silberlaus_read_frame(khz, quarters, frames, size, spectrum, lines, residual, lines).number;
 }
 
+/* What is written: what was read, with a residual bit for each line that is not 0. */
+static silberlaus_frame fields;
+
+static void write_frame(void)
+{
+    static uint8_t out[SILBERLAUS_FRAME_MAX];
+    kept = silberlaus_write_frame(khz, quarters, fields, spectrum, lines, residual, lines, out, size).number;
+}
+
 /* The record is of form 2, and moved to form 1 in `moved`. */
 static void read_entry(void)
 {
@@ -142,6 +151,33 @@ static void record_stacks(void)
     EXPECT(kept == used);
 }
 
+/* What is read of the sample, if it is accepted, in LSB mode 0; with lines that take the most symbols, in a frame of its length
+   and in the longest. */
+static void write_sample(const sample *s)
+{
+    size = sample_bytes(s, frames);
+    khz = s->khz;
+    quarters = s->quarters;
+    lines = silberlaus_line_count(khz, quarters);
+    fields = silberlaus_read_frame(khz, quarters, frames, size, spectrum, lines, residual, lines);
+    fields.lsb_mode = 0;
+    fields.residual_bits = 0;
+    for (size_t k = 0; k < fields.last_line; k++)
+        fields.residual_bits = (uint16_t)(fields.residual_bits + (spectrum[k] != 0));
+    needs_at_most(write_frame, SILBERLAUS_STACK_FRAME);
+    for (size_t k = 0; k < fields.last_line; k++)
+        spectrum[k] = spectrum[k] == 0 ? 0 : 32767;
+    needs_at_most(write_frame, SILBERLAUS_STACK_FRAME);
+    size = SILBERLAUS_FRAME_MAX;
+    needs_at_most(write_frame, SILBERLAUS_STACK_FRAME);
+}
+
+static void write_stacks(void)
+{
+    for (size_t k = 0; k < SAMPLES; k++)
+        write_sample(&samples[k]);
+}
+
 /* Each sample as a frame and as an entry. */
 static void frame_stacks(void)
 {
@@ -165,7 +201,9 @@ void stacks(void)
     slot_stacks();
     say("slots", SILBERLAUS_STACK_SLOT);
     frame_stacks();
-    say("frames", SILBERLAUS_STACK_FRAME);
+    say("frames that are read", SILBERLAUS_STACK_FRAME);
+    write_stacks();
+    say("frames that are written", SILBERLAUS_STACK_FRAME);
     record_stacks();
     say("records", SILBERLAUS_STACK_RECORD);
 }

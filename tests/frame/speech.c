@@ -1,5 +1,6 @@
 /* Encodes synthesized speech with liblc3, another maker's encoder of the same bitstream, and reads every frame: each has
-   to be accepted, and to be what the reference reads. Built and run by the script `lc3`, where liblc3 is installed.
+   to be accepted, and to be what the reference reads. Those in LSB mode 0 are written again, and have to be the same bytes.
+   Built and run by the script `lc3`, where liblc3 is installed.
 
      speech          every rate and every length from 20 to 400 bytes, of 7.5 and of 10 ms: liblc3 has no shorter ones
      speech list     writes the frames of bench_frames.txt, which are of 10 ms: rate in kHz, frame */
@@ -11,6 +12,7 @@
 #include <string.h>
 
 #include "../common/said.h"
+#include "../writer/again.h"
 #include "lend.h"
 
 enum { MOST_SAMPLES = 480, FRAMES = 24, LISTED = 16, SHOWN = 5, AT_7_5_MS = AT_TEN_MS - RATES };
@@ -74,7 +76,7 @@ static void say(speaker *s, uint8_t *frame, size_t length)
 }
 
 /* ---- every frame read */
-static unsigned long frames, wrong, filters, pitches, late_low_bits, with_residual;
+static unsigned long frames, wrong, filters, pitches, late_low_bits, with_residual, rewritten;
 
 static void judge(const char *difference, const request *r, const silberlaus_frame *want)
 {
@@ -92,6 +94,18 @@ static void judge(const char *difference, const request *r, const silberlaus_fra
     said(printf("\n"));
 }
 
+/* NULL where the frame is the same once more, or is not to be written. */
+static const char *write_again(const settings *set, const uint8_t *frame, size_t length)
+{
+    static asked a;
+    static written same;
+    silberlaus_written got;
+    if (!again_asked(silberlaus_read_frame, set, frame, length, &a, &same))
+        return NULL;
+    rewritten++;
+    return ask_and_compare(silberlaus_write_frame, &a, &same, &got) == NULL ? NULL : "writing again";
+}
+
 static void speak(const settings *set, size_t length)
 {
     speaker s;
@@ -103,21 +117,22 @@ static void speak(const settings *set, size_t length)
         say(&s, frame, length);
         request r = lend_right(set->khz, set->quarters, frame, length);
         lend_reference(&r, &want);
-        const char *difference = lend_and_compare(&r, &want, &got);
-        judge(want.fields.number != 0 ? "refusal" : difference, &r, &want.fields);
+        const char *difference = want.fields.number != 0 ? "refusal" : lend_and_compare(&r, &want, &got);
+        judge(difference != NULL ? difference : write_again(set, frame, length), &r, &want.fields);
     }
 }
 
 static int every_frame(void)
 {
     lend_prepare(silberlaus_read_frame);
+    ask_prepare();
     for (const settings *set = &reference_settings[AT_7_5_MS]; set < reference_settings + SETTINGS; set++) {
-        frames = filters = pitches = late_low_bits = with_residual = 0;
+        frames = filters = pitches = late_low_bits = with_residual = rewritten = 0;
         for (size_t length = LEAST_BYTES; length <= MOST_BYTES; length++)
             speak(set, length);
         said(printf("%4.1f ms, %2" PRIu32 " kHz: %lu frames of liblc3, %lu with TNS filters, %lu with pitch, %lu in LSB mode 1, "
-                    "%lu with residual bits; %lu wrong so far\n", set->quarters / 4.0, set->khz, frames, filters, pitches,
-                    late_low_bits, with_residual, wrong));
+                    "%lu with residual bits, %lu written again; %lu wrong so far\n", set->quarters / 4.0, set->khz, frames, filters,
+                    pitches, late_low_bits, with_residual, rewritten, wrong));
     }
     return wrong > 0;
 }

@@ -1,8 +1,8 @@
-// The arithmetic coder's tables of clauses 5.9.4 and 5.9.6, for whoever reads a frame. The code stands over nothing, its definitions and
-// proofs over crate `laws`. Each function promises the whole table of specs/Tables.antt, its rows one after the other, the lookups in the
-// order of specs/Layout.antt; proofs/Rules.antt proves of these once that every row rises from 0 to exactly 1,024 and that every lookup
-// names one of the 64 rows. make_tables makes the code's numbers and the definitions' from tables.txt. Inner: the crates of `frame` stand
-// over it. It asks nothing.
+// The arithmetic coder's tables of clauses 5.9.4 and 5.9.6, for whoever reads or writes a frame. The code stands over nothing, its
+// definitions and proofs over crate `laws`. Each function promises the whole table of specs/Tables.antt, its rows one after the other, the
+// lookups in the order of specs/Layout.antt; proofs/Rules.antt proves of these once that every row rises from 0 to exactly 1,024 and that
+// every lookup names one of the 64 rows. make_tables makes the code's numbers and the definitions' from tables.txt. Inner: the crates of
+// `frame` and `writer` stand over it. It asks nothing.
 ghost use mathlib.Core.Path.{_≡_};
 ghost use Rattle.coder_tables.specs.Layout.{byContext};
 ghost use Rattle.coder_tables.specs.Tables.{lookTable, spectrumTable, orderTable, coefficientTable};

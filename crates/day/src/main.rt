@@ -1,6 +1,7 @@
-// Walks the path of the speech on the sample on standard input: each frame is protected in a slot, the slot is changed by a fixed
-// rule, unprotected, read and stored in a record; then says what happened. It stands over `day_page`, which walks and
-// words what happened, and the C library's read and write, whose effects no contract covers. What goes wrong is said on standard error.
+// Walks the path of the speech on the sample on standard input: each frame is written anew from its fields and protected in a slot, the
+// slot is changed by a fixed rule, unprotected, read and stored in a record; then says what happened. It stands over `day_page`, which
+// walks and words what happened, and the C library's read and write, whose effects no contract covers. What goes wrong is said on
+// standard error.
 use day_page::Page;
 use day_sample::sample;
 use day_sample::sample::Surveyed;

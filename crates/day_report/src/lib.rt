@@ -12,11 +12,12 @@ mod text;
 pub fn report(out: &mut [u8], frames: usize, room: usize, t: Tally) -> usize
     ensures { λ r. ⌜ r ≤ length (now (out .entry)) ⌝ }
 {
-    let a = sent(out, 0, frames, t);
-    let b = accepted(out, a, t);
-    let c = read(out, b, t);
-    let d = refused(out, c, t);
-    kept(out, d, room, t)
+    let a = taken(out, 0, frames, t);
+    let b = sent(out, a, t);
+    let c = accepted(out, b, t);
+    let d = read(out, c, t);
+    let e = refused(out, d, t);
+    kept(out, e, room, t)
 }
 
 // What is left of a when b is taken away; nothing where b is more.
@@ -24,15 +25,39 @@ fn less(a: usize, b: usize) -> usize {
     if b <= a { a - b } else { 0 }
 }
 
-fn sent(out: &mut [u8], at: usize, frames: usize, t: Tally) -> usize
+// What the sample has, and what the headset makes of it.
+fn taken(out: &mut [u8], at: usize, frames: usize, t: Tally) -> usize
     ensures { λ r. ⌜ r ≤ length (now (out .entry)) ⌝ }
 {
     let unreached = less(less(frames, t.left_out), t.sent);
+    let numbers = [frames, t.left_out, t.sent, unreached, t.written, t.as_is];
+    fill(
+        out,
+        at,
+        b"Frames of speech go through the air and into a record. The headset reads each frame of the sample
+into its fields, writes it anew from them and protects it in a slot, semi-octets (half bytes) of
+the slot are changed on the way by a fixed rule, the receiver repairs the slot or refuses it,
+compares and reads the frame, and stores it in the record.
+A slot is made of words of 13 to 15 semi-octets; its mode says how many of each can be repaired.
+
+The sample
+  frames
+  left out: no slot carries exactly that many bytes
+  sent, each in the smallest slot and its strongest mode
+  not reached: the record was full
+
+Frames sent, by how the headset has them
+  written anew from the fields that were read
+  as the sample has them: from their fields they cannot be written
+",
+        &numbers,
+    )
+}
+
+fn sent(out: &mut [u8], at: usize, t: Tally) -> usize
+    ensures { λ r. ⌜ r ≤ length (now (out .entry)) ⌝ }
+{
     let numbers = [
-        frames,
-        t.left_out,
-        t.sent,
-        unreached,
         t.mode_2,
         t.mode_3,
         t.mode_4,
@@ -44,17 +69,7 @@ fn sent(out: &mut [u8], at: usize, frames: usize, t: Tally) -> usize
     fill(
         out,
         at,
-        b"Frames of speech go through the air and into a record. Each frame is protected in a slot,
-semi-octets (half bytes) of the slot are changed on the way by a fixed rule, the receiver
-repairs the slot or refuses it, compares and reads the frame, and stores it in the record.
-A slot is made of words of 13 to 15 semi-octets; its mode says how many of each can be repaired.
-
-The sample
-  frames
-  left out: no slot carries exactly that many bytes
-  sent, each in the smallest slot and its strongest mode
-  not reached: the record was full
-
+        b"
 Slots sent, by mode
   mode 2: 1 semi-octet of each word can be repaired
   mode 3: 2 semi-octets of each word can be repaired

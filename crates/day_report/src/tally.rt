@@ -11,6 +11,8 @@ pub struct Tally {
     pub few: usize,
     pub most: usize,
     pub beyond: usize,
+    pub written: usize,
+    pub as_is: usize,
     pub clean: usize,
     pub repaired: usize,
     pub semi_octets: usize,
@@ -51,6 +53,8 @@ impl Tally {
             few: 0,
             most: 0,
             beyond: 0,
+            written: 0,
+            as_is: 0,
             clean: 0,
             repaired: 0,
             semi_octets: 0,
@@ -98,6 +102,16 @@ impl Tally {
             1 => self.few = more(self.few, 1),
             2 => self.most = more(self.most, 1),
             _ => self.beyond = more(self.beyond, 1),
+        }
+        self
+    }
+
+    // A frame was sent: whether it was written anew, or as the sample has it.
+    pub fn write(mut self, anew: bool) -> Self {
+        if anew {
+            self.written = more(self.written, 1);
+        } else {
+            self.as_is = more(self.as_is, 1);
         }
         self
     }

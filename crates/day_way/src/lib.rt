@@ -1,5 +1,6 @@
-// The way of the frames from the sample to the record: protected, changed on the way, unprotected, compared, read, stored.
-// What is refused at a step goes no further, and is counted under its number. It stands over `slot`, `frame` and `record`.
+// The way of the frames from the sample to the record: written anew, protected, changed on the way, unprotected, compared, read, stored.
+// What is refused at a step goes no further, and is counted under its number; what cannot be written is sent as it is, and counted too.
+// It stands over `day_writing`, `slot`, `frame` and `record`.
 // Inner: `day` stands over it. It asks nothing.
 ghost use Prim.Native.Nat.{_≤_};
 ghost use lib.ListN.{length};
@@ -8,6 +9,8 @@ use day_sample::air;
 use day_sample::air::Fit;
 use day_sample::sample;
 use day_sample::sample::Next;
+use day_writing::lines_at;
+use day_writing::write_anew;
 use frame::Answer;
 use frame::Fields;
 use record::Added;
@@ -61,6 +64,7 @@ fn send(place: usize, khz: u32, duration: u32, frame: &[u8], buffer: &mut [u8], 
     let Fit::Slot(size, mode) = fit else {
         return t.leave_out();
     };
+    let mut anew = [0u8; 400];
     let mut space = [0u8; 400];
     let mut out = [0u8; 400];
     let trip = Trip {
@@ -71,13 +75,22 @@ fn send(place: usize, khz: u32, duration: u32, frame: &[u8], buffer: &mut [u8], 
         mode,
     };
     let sent = t.send(mode).weather(air::weather_at(place));
-    receive(trip, frame, &mut space[..size], &mut out[..n], buffer, sent)
+    receive(
+        trip,
+        frame,
+        &mut anew[..n],
+        &mut space[..size],
+        &mut out[..n],
+        buffer,
+        sent,
+    )
 }
 
-// What arrives of a frame, compared with what was sent, and kept.
+// What arrives of a frame that the headset writes anew, compared with what was sent, and kept.
 fn receive(
     trip: Trip,
     frame: &[u8],
+    anew: &mut [u8],
     slot: &mut [u8],
     out: &mut [u8],
     buffer: &mut [u8],
@@ -89,12 +102,13 @@ fn receive(
     let request = air::request_at(trip.place);
     let changes = air::changes_at(trip.place, trip.size, trip.mode);
     let changed_bits = air::bits_changed(changes, trip.place);
-    let got = carry(trip, request, changes, frame, slot, out);
+    let sent = t.write(write_anew(trip.khz, trip.duration, frame, anew));
+    let got = carry(trip, request, changes, anew, slot, out);
     let Reception::Accepted(found, count, bits) = got else {
-        return t.refuse(got.number());
+        return sent.refuse(got.number());
     };
-    let compared = t.accept(count as usize, bits as usize).compare(
-        same(out, frame),
+    let compared = sent.accept(count as usize, bits as usize).compare(
+        same(out, anew),
         found as u32 == request,
         count as usize == changes,
         bits as usize == changed_bits,
@@ -142,13 +156,6 @@ fn same(a: &[u8], b: &[u8]) -> bool {
         i = i + 1;
     }
     true
-}
-
-// The lines of a frame at a rate and a duration.
-fn lines_at(khz: u32, duration: u32) -> usize
-    ensures { λ r. ⌜ r ≤ 400 ⌝ }
-{
-    frame::line_count(khz, duration)
 }
 
 // Reads an accepted frame, and stores it where that succeeds.

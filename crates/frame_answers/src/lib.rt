@@ -1,5 +1,6 @@
 // What reading a frame answers, and document 01's number of each answer (specs/Answers.antt).
-// Inner: `frame_arithmetic` and `frame` stand over it, and `frame` hands the answers on to callers. It asks nothing.
+// Inner: `frame_arithmetic`, `frame` and the crates of `writer` stand over it, and `frame` hands the answers on to callers. It asks
+// nothing.
 ghost use mathlib.Core.Path.{_≡_};
 ghost use Rattle.frame_tns.specs.Tns.{unused};
 ghost use Rattle.frame_answers.specs.Answers.{answered};

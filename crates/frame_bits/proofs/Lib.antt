@@ -1,2 +1,3 @@
 -- Laws of the bits of the side stream.
 pub mod SideBits
+pub mod FieldLists

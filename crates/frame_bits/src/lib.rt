@@ -1,7 +1,7 @@
 // The side stream (5.4.2.9): bits from the last byte backwards. The cursor p is the number of bits read. Each function equals its
 // definition in specs/Bits.antt.
-// Inner: the crates of `frame` stand over it. It asks for a frame of 20 to 400 bytes, for a field of at most 25 bits that starts among the
-// first 128.
+// Inner: the crates of `frame` stand over it, those of `writer` over its definitions. It asks for a frame of 20 to 400 bytes, for a field
+// of at most 25 bits that starts among the first 128.
 ghost use mathlib.Core.Path.{_≡_};
 ghost use Prim.Native.Nat.{_+_, _*_, _≤_, _<_};
 ghost use lib.ListN.{length};

@@ -1,8 +1,8 @@
 // One pair of lines (5.4.2.7): escapes, a last symbol, the signs and the next context. Each function equals its definition in
 // specs/Pair.antt; specs/Sound.antt has the bounds that one step gives the next. `look` has the lookups context after context, `byLevel` is
 // the standard's order of them.
-// Inner: `frame_pairs` stands over it. It asks for a frame of 20 to 400 bytes, for the tables of the spectrum, and for a cursor of
-// `frame_coder`.
+// Inner: `frame_pairs` stands over it, `writer_pair` over `row_of` and `next_context`. It asks for a frame of 20 to 400 bytes, for the
+// tables of the spectrum, and for a cursor of `frame_coder`.
 ghost use mathlib.Core.Path.{_≡_};
 ghost use Prim.Native.Nat.{_+_, _*_, _^_, _≤_, _<_, _/_, _%_};
 ghost use lib.ListN.{length};
@@ -61,7 +61,7 @@ fn cap(level: usize) -> usize
 }
 
 // Where the row of a context and a level starts.
-fn row_of(look: &[u8], base: usize, level: usize) -> usize
+pub fn row_of(look: &[u8], base: usize, level: usize) -> usize
     requires { ⌜ length (now look) ≡ 4096 ⌝ }
     requires { ⌜ base < 1024 ⌝ }
     ensures { λ r. ⌜ r ≡ rowOf (byLevel (now (look .entry))) base level ⌝ }
@@ -171,7 +171,7 @@ fn read_sign(s: &[u8], m: usize, p: usize) -> Bit
     read_bit(s, p)
 }
 
-fn next_context(c: usize, v: usize, level: usize) -> usize
+pub fn next_context(c: usize, v: usize, level: usize) -> usize
     requires { ⌜ v < 16 ⌝ }
     ensures { λ r. ⌜ r ≡ contextOf c (v % 4) (v / 4) level ⌝ }
     ensures { λ r. ⌜ r < 256 ⌝ }

@@ -1,6 +1,6 @@
 // The pairs of a frame one after the other (5.4.2.7), into lent lines and levels. Each function equals its definition in specs/Pairs.antt.
-// Inner: `frame_finish` cites it, `frame_spectral` stands over it. It asks as `frame_pair` does, for at most 200 pairs, and for 400 lines
-// and 200 levels.
+// Inner: `frame_finish` cites it, `frame_spectral` stands over it, `writer_pairs` over `base_of`. It asks as `frame_pair` does, for at most
+// 200 pairs, and for 400 lines and 200 levels.
 ghost use mathlib.Core.Path.{_≡_};
 ghost use Prim.Native.Nat.{_+_, _*_, _≤_, _<_};
 ghost use lib.ListN.{length};
@@ -25,7 +25,7 @@ pub enum PairsRead {
     Cause(u8),
 }
 
-fn base_of(context: usize, offset: usize, half: usize, k: usize) -> usize
+pub fn base_of(context: usize, offset: usize, half: usize, k: usize) -> usize
     requires { ⌜ context < 256 ⌝ }
     requires { ⌜ offset ≤ 512 ⌝ }
     ensures { λ r. ⌜ r ≡ baseOf context offset half k ⌝ }

@@ -1,7 +1,8 @@
 // Residual data (5.4.2.8): the bits left, the residual bits and the late low bits of one line, each equal to its definition in
 // specs/Residual.antt; and a buffer cleared. Nothing that is read here leaves the frame.
-// Inner: `frame_finish` and `frame_spectral` stand over it. It asks for a frame of 20 to 400 bytes, for cursors inside it, for lines in
-// range, and for a buffer of at most 400 residual bits, no longer than the lines.
+// Inner: `frame_finish` and `frame_spectral` stand over it, `writer_ending` and `writer_frame` over `log2` and `bits_left`. It asks for a
+// frame of 20 to 400 bytes, for cursors inside it, for lines in range, and for a buffer of at most 400 residual bits, no longer than the
+// lines.
 ghost use mathlib.Core.Path.{_≡_};
 ghost use Prim.Native.Nat.{_+_, _*_, _≤_, _<_};
 ghost use lib.ListN.{length, replicate};
@@ -18,7 +19,7 @@ pub enum Left {
     Cause(u8),
 }
 
-fn log2(r: usize) -> usize
+pub fn log2(r: usize) -> usize
     ensures { λ k. ⌜ k ≡ log2Of r 23 ⌝ }
     ensures { λ k. ⌜ k ≤ 23 ⌝ }
 {

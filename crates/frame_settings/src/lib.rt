@@ -1,7 +1,7 @@
 // What the rate, the duration and the frame's length give (document 01, "Reading a frame"; request 02 §3): each function equals its
 // definition in specs/Settings.antt. A duration is in quarter milliseconds.
-// Inner: the crates of `frame` and `day_sample` stand over it. `rate_offset` and `tns_weighting` ask for a setting's numbers and a length
-// in range; the other public ones ask nothing, `line_count` among them, which `frame` hands on to callers.
+// Inner: the crates of `frame` and `writer` and `day_sample` stand over it. `rate_offset` and `tns_weighting` ask for a setting's numbers
+// and a length in range; the other public ones ask nothing, `line_count` among them, which `frame` hands on to callers.
 ghost use mathlib.Core.Path.{_≡_};
 ghost use Prim.Native.Nat.{_≤_, _<_};
 ghost use Rattle.frame_settings.specs.Settings.{durations, linesOf, listed, pairBits, rate, rates, rateIn, rateGiven};

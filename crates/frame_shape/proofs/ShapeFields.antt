@@ -6,6 +6,7 @@ use Prim.Native.Nat.{ℕ, _+_, _-_, _<_}
 use native.Mathlib.Omega.{arith}
 use lib.Dec.{leb}
 use Rattle.frame_bits.specs.Read.{value, cause}
+use Rattle.frame_bits.specs.Fields.{readList}
 use Rattle.frame_bits.specs.Sound.{GoodField}
 use Rattle.frame_bits.specs.declared.Field.{Field}
 use Rattle.frame_bits.proofs.SideBits.{in-more}
@@ -33,7 +34,7 @@ pub shape-read :
       sign = n .value;
       joint = j .value;
     }) (j .next))
-unfolding shapeOf
+unfolding shapeOf readList
 shape-read s p l h m g n j t f k =
     rw (f .low .found, f .high .found, f .mode .found, f .gain .found, f .sign .found, f .joint .found, k)
 

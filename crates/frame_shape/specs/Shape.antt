@@ -2,9 +2,9 @@
 use mathlib.Core.Bool.{cond}
 use mathlib.Core.List.{List}
 use Prim.Native.Nat.{ℕ, _+_, _-_}
-use lib.Dec.{leb, eqb}
-use Rattle.frame_bits.specs.Read.{Read, value, cause, andThen}
-use Rattle.frame_bits.specs.Bits.{readBits}
+use lib.Dec.{eqb}
+use Rattle.frame_bits.specs.Read.{Read, value, cause}
+use Rattle.frame_bits.specs.Fields.{FieldList, ends, field, any, below, readList}
 use Rattle.frame_shape.specs.declared.Shape.{Shape}
 use Rattle.frame_shape.specs.declared.ShapeRead.{ShapeRead}
 use Rattle.frame_shape.specs.declared.ShapeRead.the-variants as shape
@@ -14,12 +14,13 @@ abbrev pub jointEnd : ℕ → ℕ
 jointEnd mode = cond (eqb mode 0) 33460056 16708096
 
 -- shape (5.4.7.2): 5, 5, the mode bit, the gain, the sign bit, and the joint index
+abbrev pub shapeFields : FieldList Shape
+shapeFields =
+    field 5 any (λ l. field 5 any (λ h. field 1 any (λ m. field (1 + m) any (λ g. field 1 any (λ n.
+    field (25 - m) (below (jointEnd m) 3) (λ j. ends (record { low = l; high = h; mode = m; gain = g; sign = n; joint = j })))))))
+
 unfoldable pub shapeOf : List ℕ → ℕ → Read ℕ Shape
-shapeOf s p =
-    andThen (readBits s p 5) (λ l p. andThen (readBits s p 5) (λ h p. andThen (readBits s p 1) (λ m p.
-    andThen (readBits s p (1 + m)) (λ g p. andThen (readBits s p 1) (λ n p. andThen (readBits s p (25 - m)) (λ j p.
-    cond (leb (jointEnd m) j) (cause 3)
-    (value (record { low = l; high = h; mode = m; gain = g; sign = n; joint = j }) p)))))))
+shapeOf s p = readList s p shapeFields
 
 abbrev pub shapeGiven : ShapeRead → Read ℕ Shape
 shapeGiven (shape.Value q p) = value q p

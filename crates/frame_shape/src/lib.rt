@@ -1,6 +1,7 @@
 // The shape of the side information (5.4.2.3): 38 bits, field by field. Each function equals its definition in
 // specs/Shape.antt.
-// Inner: `frame_side` stands over it. It asks for a frame of 20 to 400 bytes with the shape inside.
+// Inner: `frame_side` stands over it, and `writer_fits` over `joint_end`, which asks nothing. It asks for a frame of 20 to 400 bytes with
+// the shape inside.
 ghost use mathlib.Core.Path.{_≡_};
 ghost use Prim.Native.Nat.{_≤_, _<_};
 ghost use Rattle.frame_settings.specs.Settings.{Sized};
@@ -24,7 +25,7 @@ pub enum ShapeRead {
 }
 
 // Where the joint index ends, by the mode bit.
-fn joint_end(mode: usize) -> usize
+pub fn joint_end(mode: usize) -> usize
     ensures { λ r. ⌜ r ≡ jointEnd mode ⌝ }
     ensures { λ r. ⌜ r < 4294967296 ⌝ }
 {

@@ -1,11 +1,11 @@
 // The side information (5.4.2.3), field by field: each function equals its definition in specs/Side.antt, and no field
 // leaves a frame of 20 bytes.
-// Inner: `frame_answers`, `frame_spectral`, `frame_arithmetic` and `frame` stand over it. It asks for a known setting and a frame of 20 to
-// 400 bytes.
+// Inner: `frame_answers`, `frame_spectral`, `frame_arithmetic` and `frame` stand over it, `writer_fits` and `writer_side` over `last_pair`
+// and `second_flag`. It asks for a known setting and a frame of 20 to 400 bytes.
 ghost use mathlib.Core.Path.{_≡_};
 ghost use Prim.Native.Nat.{_≤_, _<_};
 ghost use Rattle.frame_settings.specs.Settings.{Known, Sized};
-ghost use Rattle.frame_side.specs.Side.{headOf, headGiven, secondFlag, sideOf, sideGiven};
+ghost use Rattle.frame_side.specs.Side.{headOf, headGiven, lastPair, secondFlag, sideOf, sideGiven};
 ghost use Rattle.frame_side.specs.Sound.{GoodHead, GoodFlags, GoodTail, GoodSide};
 use frame_bits::read_bits;
 use frame_settings::Setting;
@@ -64,6 +64,14 @@ pub enum SideRead {
     Cause(u8),
 }
 
+// The field of a last line: which pair is the last.
+pub fn last_pair(last: usize) -> usize
+    ensures { λ r. ⌜ r ≡ lastPair last ⌝ }
+{
+    let half = last / 2;
+    if half == 0 { 0 } else { half - 1 }
+}
+
 fn read_head(s: &[u8], r: Setting) -> HeadRead
     requires { ⌜ Known r ⌝ }
     requires { ⌜ Sized (now s) ⌝ }
@@ -95,7 +103,7 @@ fn read_head(s: &[u8], r: Setting) -> HeadRead
 }
 
 // The bits of the second filter's flag.
-fn second_flag(filters: usize, bandwidth: usize) -> usize
+pub fn second_flag(filters: usize, bandwidth: usize) -> usize
     requires { ⌜ 1 ≤ filters ⌝ }
     requires { ⌜ filters ≤ 2 ⌝ }
     ensures { λ r. ⌜ r ≡ secondFlag filters bandwidth ⌝ }

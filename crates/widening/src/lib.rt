@@ -1,5 +1,6 @@
 // Numbers made wider: nothing is lost, and each function says so, so that a proof reads the value.
-// Inner: `code_word_syndromes`, `code_word_errors`, `day_sample` and the crates of `frame` and `record` stand over it. It asks nothing.
+// Inner: `code_word_syndromes`, `code_word_errors`, `day_sample` and the crates of `frame`, `writer` and `record` stand over it. It asks
+// nothing.
 ghost use mathlib.Core.Path.{_≡_};
 ghost use Prim.Native.Nat.{_<_};
 

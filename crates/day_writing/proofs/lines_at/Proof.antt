@@ -1,10 +1,10 @@
--- `day_way::lines_at` meets its contract. Assumes nothing.
+-- `day_writing::lines_at` meets its contract. Assumes nothing.
 use Prim.Native.Nat.{ℕ, _≤_}
 use mathlib.Core.Path.{subst⁻¹}
 use borrow.Author.Needs.{needs}
 use Rattle.frame_settings.proofs.Settings.{lines-most}
-use Rattle.day_way.proofs.lines_at.Statement.{statement}
-use Rattle.day_way.proofs.lines_at.Tie as tie
+use Rattle.day_writing.proofs.lines_at.Statement.{statement}
+use Rattle.day_writing.proofs.lines_at.Tie as tie
 
 returns : tie.Need-returns
 returns c = subst⁻¹ (λ (n : ℕ). n ≤ 400) (c .line-count .ensures) (lines-most (c .before .args .khz) (c .before .args .duration))

@@ -1,0 +1,2 @@
+-- Each way to the outcome (Outcomes).
+pub mod Outcomes

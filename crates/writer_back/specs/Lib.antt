@@ -1,0 +1,2 @@
+-- What reading gives back of what was written (Back).
+pub mod Back

@@ -1,0 +1,2 @@
+-- Laws of the pairs written: a turn of the loop over them (Pairing).
+pub mod Pairing

@@ -1,0 +1,2 @@
+-- Each way through the writing of a filter.
+pub mod TnsSteps
