@@ -1,6 +1,6 @@
 // The end of the arithmetic stream (5.3.14, ac_enc_finish), and the frame joined from both streams. Each function equals its definition in
 // specs/Ending.antt of `writer_laws` or in specs/Joined.antt.
-// Inner: `writer_frame` stands over it. It asks for streams of `writer_stream` and `writer_side` that share no bit of the frame.
+// Inner: `writer_frame` stands over it. It asks for streams of `writer_stream` and `writer_bits` that share no bit of the frame.
 ghost use mathlib.Core.Path.{_≡_};
 ghost use Prim.Native.Nat.{_+_, _-_, _*_, _^_, _≤_, _<_};
 ghost use lib.ListN.{length};

@@ -86,8 +86,8 @@ fn write_rest(
         RestIs (now (front .entry)) (now (side .entry)) (length (now (frame .entry))) c p sent (now (bits .entry)) (now (frame .exit))
         ⌝ }
 {
-    let q = writer_side::put_bits(bits, sent, p, side);
-    writer_side::close(q, side);
+    let q = writer_bits::put_bits(bits, sent, p, side);
+    writer_bits::close(q, side);
     writer_ending::end(c, front);
     writer_ending::join(front, side, frame);
 }

@@ -1,7 +1,7 @@
 // One pair of lines written (5.3.14): escapes, a last symbol, low bits and signs, and the next context. Each function equals its definition
 // in specs/Pair.antt of `writer_laws`. `look` has the lookups context after context, as in `frame_pair`.
 // Inner: `writer_pairs` stands over it. It asks for the tables of the spectrum, for magnitudes up to 32,767, and for streams of
-// `writer_stream` and `writer_side` with room for a pair.
+// `writer_stream` and `writer_bits` with room for a pair.
 ghost use mathlib.Core.Path.{_≡_};
 ghost use Prim.Native.Nat.{_+_, _*_, _/_, _^_, _≤_, _<_};
 ghost use lib.IntN.{natAbs};
@@ -16,7 +16,7 @@ ghost use Rattle.writer_steps.specs.Sends.{Sends, Sent};
 use frame_coder::Coder;
 use frame_pair::next_context;
 use frame_pair::row_of;
-use writer_side::put;
+use writer_bits::put;
 use writer_steps::Cursor;
 use writer_steps::PairSent;
 use writer_steps::Walked;

@@ -22,7 +22,7 @@ use Rattle.writer_laws.proofs.Given.{both-hold}
 use Rattle.writer_laws.proofs.SideParts.{side-parts, side-bits}
 use Rattle.writer_steps.specs.Cursors.{Kept, Puts}
 use Rattle.writer_steps.specs.declared.Cursor.{Cursor}
-use Rattle.writer_side.proofs.Putting.{puts-both, none-kept}
+use Rattle.writer_bits.proofs.Putting.{puts-both, none-kept}
 
 -- a value that fits has no more bits than its field, and those behind it fit theirs
 pub first-fits : {A : Type 0} (w : ℕ) (rule : Rule) (rest : ℕ → FieldList A) (x : ℕ) (xs : List ℕ)

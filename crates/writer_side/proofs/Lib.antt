@@ -1,4 +1,2 @@
--- Laws of the side stream written.
-pub mod Numbers
-pub mod Putting
+-- Laws of the side information written (Fields).
 pub mod Fields

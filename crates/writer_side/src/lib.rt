@@ -1,17 +1,17 @@
-// The side stream written (5.3.14): bits into bytes, the first bit the lowest of the first byte, as a frame has them from its end. What is
-// written is the list of bits of specs/SideBits.antt of `writer_laws` and of the fields' list (specs/Fields.antt of `frame_bits`).
-// Inner: `writer_pair` and those over it stand over it. It asks for 512 bytes of room, for a cursor that it gave itself (`Open`), for bits
-// that fit the room, and for side information that fits its fields.
+// The side information written (5.3.14), field after field: what is written is the bits of the fields' list (specs/Fields.antt of
+// `frame_bits`) with the values of specs/SideBits.antt of `writer_laws`.
+// Inner: `writer_frame` stands over it. It asks for a known setting, for side information that fits its fields, and for a cursor of
+// `writer_bits`.
 ghost use mathlib.Core.Path.{_≡_};
 ghost use mathlib.Core.Bool.{true};
-ghost use Prim.Native.Nat.{_+_, _^_, _≤_, _<_};
-ghost use lib.ListN.{length, replicate, take};
-ghost use Rattle.frame_bits.specs.Fields.{valueBits, listBits, listFits};
+ghost use Prim.Native.Nat.{_+_, _≤_, _<_};
+ghost use lib.ListN.{replicate};
+ghost use Rattle.frame_bits.specs.Fields.{listBits, listFits};
 ghost use Rattle.frame_settings.specs.Settings.{Known};
 ghost use Rattle.frame_shape.specs.Shape.{shapeFields};
 ghost use Rattle.frame_side.specs.Side.{headFields, flagsFields, tailFields, sideFields};
 ghost use Rattle.writer_laws.specs.SideBits.{headValues, flagsValues, shapeValues, tailValues, sideValues};
-ghost use Rattle.writer_steps.specs.Cursors.{Open, Kept, Puts, Closes, Binary};
+ghost use Rattle.writer_steps.specs.Cursors.{Open, Kept, Puts};
 use frame_settings::Setting;
 use frame_settings::tns_filters;
 use frame_side::Flags;
@@ -24,60 +24,8 @@ use frame_side::second_flag;
 use widening::wide;
 use widening::wide2;
 use widening::wide4;
+use writer_bits::put;
 use writer_steps::Cursor;
-
-// A value of w bits, lowest first.
-pub fn put(v: usize, w: usize, c: Cursor, side: &mut [u8]) -> Cursor
-    requires { ⌜ w ≤ 25 ⌝ }
-    requires { ⌜ v < 2 ^ w ⌝ }
-    requires { ⌜ Open (now side) c ⌝ }
-    requires { ⌜ c .at ≤ 4000 ⌝ }
-    ensures { λ r. ⌜ Puts (valueBits v w) (now (side .entry)) (now (side .exit)) c r ⌝ }
-    ensures { λ r. ⌜ Open (now (side .exit)) r ⌝ }
-    ensures { λ r. ⌜ r .at ≡ c .at + w ⌝ }
-{
-    let at = c.at;
-    let old = c.held;
-    let mut held = old + (v << (at % 8));
-    let mut n = at % 8 + w;
-    let mut j = at / 8;
-    while 8 <= n {
-        side[j] = (held % 256) as u8;
-        held = held / 256;
-        n = n - 8;
-        j = j + 1;
-    }
-    Cursor { at: at + w, held }
-}
-
-// The first n of some bits.
-pub fn put_bits(bits: &[u8], n: usize, first: Cursor, side: &mut [u8]) -> Cursor
-    requires { ⌜ n ≤ length (now bits) ⌝ }
-    requires { ⌜ Binary n (now bits) ⌝ }
-    requires { ⌜ Open (now side) first ⌝ }
-    requires { ⌜ first .at + n ≤ 4000 ⌝ }
-    ensures { λ r. ⌜ Puts (take n (now (bits .entry))) (now (side .entry)) (now (side .exit)) first r ⌝ }
-    ensures { λ r. ⌜ Open (now (side .exit)) r ⌝ }
-    ensures { λ r. ⌜ r .at ≡ first .at + n ⌝ }
-{
-    let mut c = first;
-    let mut i = 0;
-    while i < n {
-        c = put(wide(bits[i]), 1, c, side);
-        i = i + 1;
-    }
-    c
-}
-
-// The last bits fill a byte with zeros.
-pub fn close(c: Cursor, side: &mut [u8])
-    requires { ⌜ Open (now side) c ⌝ }
-    requires { ⌜ c .at ≤ 4000 ⌝ }
-    ensures { λ _. ⌜ Closes (now (side .entry)) (now (side .exit)) c ⌝ }
-    ensures { λ _. ⌜ length (now (side .exit)) ≡ 512 ⌝ }
-{
-    side[c.at / 8] = (c.held % 256) as u8;
-}
 
 fn put_head(r: Setting, h: Head, c: Cursor, side: &mut [u8]) -> Cursor
     requires { ⌜ Known r ⌝ }

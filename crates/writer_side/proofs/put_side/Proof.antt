@@ -5,7 +5,7 @@ use borrow.Author.Needs.{needs}
 use Rattle.frame_settings.specs.Settings.{filtersOf}
 use Rattle.writer_side.proofs.put_side.Statement.{statement}
 use Rattle.writer_side.proofs.put_side.Tie as tie
-use Rattle.writer_side.proofs.Putting.{none-open}
+use Rattle.writer_bits.proofs.Putting.{none-open}
 use Rattle.writer_side.proofs.Fields.{partsFit, side-fits, side-puts, flags-fit, flags-same, tail-same}
 
 -- the place before a part, from the next one's

@@ -1,13 +1,13 @@
--- `writer_side::put_bits` meets its contract: bit after bit. Assumes nothing.
+-- `writer_bits::put_bits` meets its contract: bit after bit. Assumes nothing.
 use mathlib.Core.Path.{_≡_, refl, _∙_}
 use Prim.Native.Nat.{_+_, _-_, _≤_, _<_}
 use native.Mathlib.Omega.{arith}
 use lib.ListN.{length, take}
 use borrow.Author.Needs.{needs}
 use Rattle.writer_steps.specs.Cursors.{Open, Puts}
-use Rattle.writer_side.proofs.put_bits.Statement.{statement}
-use Rattle.writer_side.proofs.put_bits.Tie as tie
-use Rattle.writer_side.proofs.Putting.{puts-none, puts-more}
+use Rattle.writer_bits.proofs.put_bits.Statement.{statement}
+use Rattle.writer_bits.proofs.put_bits.Tie as tie
+use Rattle.writer_bits.proofs.Putting.{puts-none, puts-more}
 
 abbrev Inv-loop : tie.InvT-loop
 Inv-loop bits n side₀ c₀ i₀ side c i =

@@ -1,11 +1,11 @@
--- `writer_side::close` meets its contract. Assumes nothing.
+-- `writer_bits::close` meets its contract. Assumes nothing.
 use mathlib.Core.Path.{_∙_}
 use Prim.Native.Nat.{_/_, _%_}
 use lib.ListN.{length-set}
 use borrow.Author.Needs.{needs}
-use Rattle.writer_side.proofs.close.Statement.{statement}
-use Rattle.writer_side.proofs.close.Tie as tie
-use Rattle.writer_side.proofs.Putting.{close-done}
+use Rattle.writer_bits.proofs.close.Statement.{statement}
+use Rattle.writer_bits.proofs.close.Tie as tie
+use Rattle.writer_bits.proofs.Putting.{close-done}
 
 returns : tie.Need-returns
 returns c =

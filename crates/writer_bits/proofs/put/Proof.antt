@@ -1,13 +1,13 @@
--- `writer_side::put` meets its contract: what is held and the value are one number, whose bytes are written. Assumes nothing.
+-- `writer_bits::put` meets its contract: what is held and the value are one number, whose bytes are written. Assumes nothing.
 use mathlib.Core.Path.{_≡_, refl, sym, ap, _∙_}
 use Prim.Native.Nat.{ℕ, _+_, _-_, _*_, _/_, _%_, _^_, _≤_, _<_}
 use native.Mathlib.Omega.{arith}
 use native.Mathlib.Nat.{div-one}
 use borrow.Author.Needs.{needs}
-use Rattle.writer_side.proofs.put.Statement.{statement}
-use Rattle.writer_side.proofs.put.Tie as tie
-use Rattle.writer_side.proofs.Numbers.{shifted-exact, joined-below, joined-fits, byte-off}
-use Rattle.writer_side.proofs.Putting.{Filled, filled-first, filled-next, held-next, put-done}
+use Rattle.writer_bits.proofs.put.Statement.{statement}
+use Rattle.writer_bits.proofs.put.Tie as tie
+use Rattle.writer_bits.proofs.Numbers.{shifted-exact, joined-below, joined-fits, byte-off}
+use Rattle.writer_bits.proofs.Putting.{Filled, filled-first, filled-next, held-next, put-done}
 
 abbrev Inv-loop : tie.InvT-loop
 Inv-loop v w side₀ at old held₀ n₀ j₀ side held n j =

@@ -16,7 +16,7 @@ use Rattle.writer_laws.specs.SideBits.{numberOf}
 use Rattle.writer_steps.specs.Cursors.{Open, Kept, Puts, Closes}
 use Rattle.writer_steps.specs.declared.Cursor.{Cursor}
 use Rattle.writer_laws.proofs.Given.{length-value}
-use Rattle.writer_side.proofs.Numbers.{values-number, number-behind, behind-below, byte-before, byte-from}
+use Rattle.writer_bits.proofs.Numbers.{values-number, number-behind, behind-below, byte-before, byte-from}
 
 -- the bytes of h from byte b up to byte j, and all others as they were
 pub record Filled (old : List ℕ) (b h : ℕ) (s : List ℕ) (j : ℕ) : Type 0 where
