@@ -1,10 +1,11 @@
 // What making and correcting words answer, and document 01's number and the counts of each answer (specs/Answers.antt).
 // Inner: `code_word` stands over it and hands the answers on to callers. It asks nothing.
+#![tactic(auto)]
 ghost use Rattle.std.specs.Prelude.{◌≡◌};
 ghost use Rattle.code_word_answers.specs.Answers.{made_number, corrected_number, corrected_count, corrected_bits, answers_number};
 
 // Whether a word was made.
-#[derive(Drop)]
+#[derive(Clone, Copy)]
 pub enum Making {
     Made,
     Unsuitable,
@@ -23,7 +24,7 @@ impl Making {
 }
 
 // What correcting a word found: the counts of changed semi-octets and of changed bits, or no valid word near enough.
-#[derive(Drop)]
+#[derive(Clone, Copy)]
 pub enum Correction {
     Corrected(u8, u8),
     None,
@@ -66,7 +67,7 @@ impl Correction {
 }
 
 // Whether each of many words has its answer.
-#[derive(Drop)]
+#[derive(Clone, Copy)]
 pub enum Answers {
     Given,
     Unsuitable,

@@ -2,6 +2,7 @@
 // remainder in one number (specs/Register.antt of `code_word_laws`), and the table of what each data semi-octet adds to them (`checks`).
 // One code for every mode.
 // Inner: `code_word` stands over it. It asks for a mode in range, and for data that are semi-octets behind room for the check.
+#![tactic(auto)]
 ghost use Rattle.std.specs.Prelude.{◌≡◌, ◌-◌, ◌≤◌, ◌<◌, length, drop};
 ghost use Rattle.code_word_laws.specs.Word.{SemiOctets, distance};
 ghost use Rattle.code_word_laws.specs.Register.{feedback, fed, register, with_checks};

@@ -1,6 +1,7 @@
 // The error locator and the error word: from a word's syndromes the recurrence by which the sums of at most t errors go on, and the errors
 // that these sums are transformed back to. Inner: `code_word_corrector` stands over it. It asks for the table that `code_word_syndromes`
 // gives, for t from 1 to 3 and for semi-octets.
+#![tactic(auto)]
 ghost use Rattle.std.specs.Prelude.{◌≡◌, [], ◌∷◌, ◌<◌};
 ghost use Rattle.code_word_laws.specs.Word.{SemiOctets};
 ghost use Rattle.code_word_laws.specs.Corrector.{Table, TableFor, IsLocator, minor_two, triple};
@@ -32,7 +33,7 @@ fn tripled(t: &[u32; 512], a: u8, x: u8, b: u8, y: u8, c: u8, z: u8) -> u8
 
 // The error locator, as the recurrence of the sums of the errors: a sum is the first times the one before it, the second times the one
 // before that, the third times the one before that. The last is the third sum.
-#[derive(Drop)]
+#[derive(Clone, Copy)]
 pub struct Locator(pub u8, pub u8, pub u8, pub u8);
 
 // The locator where the leading minor d of three rows is not 0.

@@ -2,6 +2,7 @@
 // read from the lent table and added up, packed in one number; those at 2^1 .. 2^(2 t) are those of its errors alone.
 // Inner: `code_word_locator`, `code_word_corrector` and `code_word` stand over it. It asks for the table that `table` gives, for t from 1
 // to 3 and for semi-octets.
+#![tactic(auto)]
 ghost use Rattle.std.specs.Prelude.{◌≡◌, ◌+◌, ◌%◌, ◌^◌, ◌≤◌, ◌<◌, length};
 ghost use Rattle.laws.specs.Decides.{Decides};
 ghost use Rattle.gf16.specs.Field.{product};

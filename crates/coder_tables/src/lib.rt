@@ -3,6 +3,8 @@
 // lookups in the order of specs/Layout.antt; proofs/Rules.antt proves of these once that every row rises from 0 to exactly 1,024 and that
 // every lookup names one of the 64 rows. make_tables makes the code's numbers and the definitions' from tables.txt. Inner: the crates of
 // `frame` and `writer` stand over it. It asks nothing.
+#![tactic(auto)]
+
 ghost use Rattle.std.specs.Prelude.{◌≡◌};
 ghost use Rattle.coder_tables.specs.Layout.{by_context};
 ghost use Rattle.coder_tables.specs.Tables.{look_table, spectrum_table, order_table, coefficient_table};

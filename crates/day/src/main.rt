@@ -2,6 +2,7 @@
 // slot is changed by a fixed rule, unprotected, read and stored in a record; then says what happened. It stands over `day_page`, which
 // walks and words what happened, and the C library's read and write, whose effects no contract covers. What goes wrong is said on
 // standard error.
+#![tactic(auto)]
 use day_page::Page;
 use day_sample::sample;
 use day_sample::sample::Surveyed;

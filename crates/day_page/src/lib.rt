@@ -1,12 +1,13 @@
 // What the day says: it walks the sample, words the report of the walk and lists the record. It stands over `day_way`, `day_report` and
 // `record_listing`. Inner: `day` stands over it. It asks nothing.
+#![tactic(auto)]
 ghost use Rattle.std.specs.Prelude.{length};
 ghost use Rattle.day_page.specs.Page.{Inside};
 
 use record_listing::Listed;
 
 // Where the report ends in its buffer, and where the listing starts in its own.
-#[derive(Drop)]
+#[derive(Clone, Copy)]
 pub enum Page {
     Texts(usize, usize),
     NoTexts,

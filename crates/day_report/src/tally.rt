@@ -1,7 +1,7 @@
 // What happened, counted. A tally goes by value from step to step, and each step answers it with its own counts added.
 use std::num::wrapping_add_usize;
 
-#[derive(Drop)]
+#[derive(Clone, Copy)]
 pub struct Tally {
     pub left_out: usize,
     pub sent: usize,

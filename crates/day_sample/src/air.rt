@@ -4,7 +4,7 @@ ghost use Rattle.std.specs.Prelude.{◌≤◌};
 ghost use Rattle.day_sample.specs.Air.{Fitting};
 
 // A slot that carries exactly a frame's bytes: its size and its mode.
-#[derive(Drop)]
+#[derive(Clone, Copy)]
 pub enum Fit {
     Slot(usize, u32),
     Nothing,

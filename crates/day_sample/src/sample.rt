@@ -6,7 +6,7 @@ ghost use Rattle.day_sample.specs.Sample.{Follows};
 use widening::wide;
 
 // A frame of the sample: its rate and duration, and where it starts and ends.
-#[derive(Drop)]
+#[derive(Clone, Copy)]
 pub struct Piece {
     pub khz: u32,
     pub duration: u32,
@@ -15,7 +15,7 @@ pub struct Piece {
 }
 
 // What stands at a place of the sample.
-#[derive(Drop)]
+#[derive(Clone, Copy)]
 pub enum Next {
     Frame(Piece),
     CutShort,
@@ -25,7 +25,7 @@ pub enum Next {
 }
 
 // How many frames the sample has, or what is wrong with it.
-#[derive(Drop)]
+#[derive(Clone, Copy)]
 pub enum Surveyed {
     Frames(usize),
     CutShort,

@@ -2,6 +2,7 @@
 // What is refused at a step goes no further, and is counted under its number; what cannot be written is sent as it is, and counted too.
 // It stands over `day_writing`, `slot`, `frame` and `record`.
 // Inner: `day` stands over it. It asks nothing.
+#![tactic(auto)]
 ghost use Rattle.std.specs.Prelude.{◌≤◌, length};
 
 use day_report::tally::Tally;
@@ -14,7 +15,7 @@ use record::Added;
 use slot::{Protection, Reception};
 
 // A frame's place in the sample, its rate and duration, and the slot that carries it.
-#[derive(Drop)]
+#[derive(Clone, Copy)]
 struct Trip {
     place: usize,
     khz: u32,

@@ -1,6 +1,7 @@
 // What reading a frame answers, and document 01's number of each answer (specs/Answers.antt).
 // Inner: `frame_arithmetic`, `frame` and the crates of `writer` stand over it, and `frame` hands the answers on to callers. It asks
 // nothing.
+#![tactic(auto)]
 ghost use Rattle.std.specs.Prelude.{◌≡◌};
 ghost use Rattle.frame_tns.specs.Tns.{unused};
 ghost use Rattle.frame_answers.specs.Answers.{answered};
@@ -8,7 +9,7 @@ ghost use Rattle.frame_answers.specs.Answers.{answered};
 use frame_side::Side;
 
 // What an accepted frame says beside its TNS coefficients, spectrum and residual bits.
-#[derive(Drop)]
+#[derive(Clone, Copy)]
 pub struct Fields {
     pub side: Side,
     pub tns_order_0: u8,
@@ -18,7 +19,7 @@ pub struct Fields {
 }
 
 // The fields, or document 01's refusal 1, 2 or 5; 5 with its cause.
-#[derive(Drop)]
+#[derive(Clone, Copy)]
 pub enum Answer {
     Read(Fields),
     Setting,
@@ -41,7 +42,7 @@ impl Answer {
 }
 
 // The answer, and beside it each filter's coefficients: 0 from its order on, and all 0 on a refusal.
-#[derive(Drop)]
+#[derive(Clone, Copy)]
 pub struct Reading {
     pub answer: Answer,
     pub tns_coefficients_0: [u8; 8],

@@ -2,6 +2,7 @@
 // definition in specs/Bits.antt.
 // Inner: the crates of `frame` stand over it, those of `writer` over its definitions. It asks for a frame of 20 to 400 bytes, for a field
 // of at most 25 bits that starts among the first 128.
+#![tactic(auto)]
 ghost use Rattle.std.specs.Prelude.{◌≡◌, ◌+◌, ◌*◌, ◌≤◌, ◌<◌, length};
 ghost use Rattle.frame_settings.specs.Settings.{Sized};
 ghost use Rattle.frame_bits.specs.Bits.{bit_of, read_bit, bit_given};
@@ -10,14 +11,14 @@ ghost use Rattle.frame_bits.specs.Sound.{GoodBit, GoodField, back_of};
 use widening::wide;
 
 // A bit with the next cursor; or it would stand outside the frame, which is cause 6.
-#[derive(Drop)]
+#[derive(Clone, Copy)]
 pub enum Bit {
     Value(usize, usize),
     Outside,
 }
 
 // A field's value with the next cursor.
-#[derive(Drop)]
+#[derive(Clone, Copy)]
 pub struct Field {
     pub value: usize,
     pub next: usize,

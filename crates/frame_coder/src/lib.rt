@@ -2,6 +2,7 @@
 // in specs/Symbol.antt, and no byte outside the frame is taken.
 // Inner: `frame_tns`, `frame_pair` and those over them stand over it, `writer_stream` over `entry`. It asks for a frame of 20 to 400 bytes,
 // for a row that rises from 0 to 1,024, and for a cursor that it gave itself (`Sound`).
+#![tactic(auto)]
 ghost use Rattle.std.specs.Prelude.{◌≡◌, ◌+◌, ◌*◌, ◌<◌};
 ghost use Rattle.frame_settings.specs.Settings.{Sized};
 ghost use Rattle.frame_coder.specs.Symbol.{start_of, largest, refill_of, symbol_of, symbol_given};
@@ -10,7 +11,7 @@ ghost use Rattle.frame_coder.specs.Sound.{Sound, Ready, SymbolRow, Scaled, Narro
 use widening::wide;
 
 // The clause's low and range; `at` is its bp, and `taken` the number of symbols taken whole.
-#[derive(Drop)]
+#[derive(Clone, Copy)]
 pub struct Coder {
     pub low: usize,
     pub range: usize,
@@ -19,7 +20,7 @@ pub struct Coder {
 }
 
 // A symbol with the next cursor, or the cause of a bit error.
-#[derive(Drop)]
+#[derive(Clone, Copy)]
 pub enum Symbol {
     Value(usize, Coder),
     Cause(u8),
@@ -47,7 +48,7 @@ pub fn start(s: &[u8]) -> Coder
 }
 
 // A symbol, and its row's frequencies below and above it, scaled.
-#[derive(Drop)]
+#[derive(Clone, Copy)]
 struct Found {
     symbol: usize,
     below: usize,

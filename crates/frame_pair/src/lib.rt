@@ -3,6 +3,7 @@
 // the standard's order of them.
 // Inner: `frame_pairs` stands over it, `writer_pair` over `row_of` and `next_context`. It asks for a frame of 20 to 400 bytes, for the
 // tables of the spectrum, and for a cursor of `frame_coder`.
+#![tactic(auto)]
 ghost use Rattle.std.specs.Prelude.{◌≡◌, ◌+◌, ◌*◌, ◌^◌, ◌≤◌, ◌<◌, ◌/◌, ◌%◌, length};
 ghost use Rattle.coder_tables.specs.Layout.{by_level};
 ghost use Rattle.frame_settings.specs.Settings.{Sized};
@@ -16,14 +17,14 @@ use frame_coder::{Coder, Symbol, decode};
 use widening::wide;
 
 // The two values with an escape's bits and the next side cursor; or a bit would stand outside the frame, which is cause 6.
-#[derive(Drop)]
+#[derive(Clone, Copy)]
 pub enum Plane {
     Value(usize, usize, usize),
     Outside,
 }
 
 // A pair's last symbol, its two values so far and its level, which is the number of escapes before it.
-#[derive(Drop)]
+#[derive(Clone, Copy)]
 pub struct Last {
     pub symbol: usize,
     pub x: usize,
@@ -31,14 +32,14 @@ pub struct Last {
     pub level: usize,
 }
 
-#[derive(Drop)]
+#[derive(Clone, Copy)]
 pub enum LastRead {
     Value(Last, Coder, usize),
     Cause(u8),
 }
 
 // Two lines as magnitudes and sign bits, the pair's level, and the context that it leaves.
-#[derive(Drop)]
+#[derive(Clone, Copy)]
 pub struct Pair {
     pub x: usize,
     pub xsign: usize,
@@ -48,7 +49,7 @@ pub struct Pair {
     pub context: usize,
 }
 
-#[derive(Drop)]
+#[derive(Clone, Copy)]
 pub enum PairRead {
     Value(Pair, Coder, usize),
     Cause(u8),

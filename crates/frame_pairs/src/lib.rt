@@ -1,6 +1,7 @@
 // The pairs of a frame one after the other (5.4.2.7), into lent lines and levels. Each function equals its definition in specs/Pairs.antt.
 // Inner: `frame_finish` cites it, `frame_spectral` stands over it, `writer_pairs` over `base_of`. It asks as `frame_pair` does, for at most
 // 200 pairs, and for 400 lines and 200 levels.
+#![tactic(auto)]
 ghost use Rattle.std.specs.Prelude.{◌≡◌, ◌+◌, ◌*◌, ◌≤◌, ◌<◌, length};
 ghost use Rattle.coder_tables.specs.Layout.{by_level};
 ghost use Rattle.frame_pairs.specs.Pairs.{base_of, line_of, store_of, pairs_of, pairs_given};
@@ -10,7 +11,7 @@ use frame_coder::Coder;
 use frame_pair::{Pair, PairRead, read_pair};
 
 // What all pairs are read with: the LSB mode, the offset of the rate, and NE / 2.
-#[derive(Drop)]
+#[derive(Clone, Copy)]
 pub struct PairSetting {
     pub lsb: usize,
     pub offset: usize,
@@ -18,7 +19,7 @@ pub struct PairSetting {
 }
 
 // The cursors of both streams, or a cause; the lines and levels stand in the lent slices.
-#[derive(Drop)]
+#[derive(Clone, Copy)]
 pub enum PairsRead {
     Value(Coder, usize),
     Cause(u8),

@@ -3,6 +3,7 @@
 // Inner: `frame_finish` and `frame_spectral` stand over it, `writer_ending` and `writer_frame` over `log2` and `bits_left`. It asks for a
 // frame of 20 to 400 bytes, for cursors inside it, for lines in range, and for a buffer of at most 400 residual bits, no longer than the
 // lines.
+#![tactic(auto)]
 ghost use Rattle.std.specs.Prelude.{◌≡◌, ◌+◌, ◌*◌, ◌≤◌, ◌<◌, length, replicate, nat_abs};
 ghost use Rattle.frame_residual.specs.Residual.{log2_of, left_of, left_given, residual_of, residual_given, away};
 ghost use Rattle.frame_residual.specs.Residual.{born_of, late_of, late_given};
@@ -12,7 +13,7 @@ use frame_bits::bit_at;
 use frame_coder::Coder;
 
 // The bits left for the residual, or cause 7.
-#[derive(Drop)]
+#[derive(Clone, Copy)]
 pub enum Left {
     Value(usize),
     Cause(u8),
@@ -83,7 +84,7 @@ pub fn read_residual(
 }
 
 // What a line becomes by its late low bits, with the next cursor and the bits left; or no bit was left where one was wanted.
-#[derive(Drop)]
+#[derive(Clone, Copy)]
 pub enum LateRead {
     Line(i32, usize, usize),
     Stop,

@@ -2,13 +2,15 @@
 // definition in specs/Settings.antt. A duration is in quarter milliseconds.
 // Inner: the crates of `frame` and `writer` and `day_sample` stand over it. `rate_offset` and `tns_weighting` ask for a setting's numbers
 // and a length in range; the other public ones ask nothing, `line_count` among them, which `frame` hands on to callers.
+#![tactic(auto)]
+
 ghost use Rattle.std.specs.Prelude.{◌≡◌, ◌≤◌, ◌<◌};
 ghost use Rattle.frame_settings.specs.Settings.{durations, lines_of, listed, pair_bits, rate, rates, rate_in, rate_given};
 ghost use Rattle.frame_settings.specs.Settings.{setting, setting_of, KnownSetting, filters_of, order_of, line_count, rate_offset};
 ghost use Rattle.frame_settings.specs.Settings.{weighting};
 
 // The rate's index, the line count NE, the bits of the fields bandwidth and last pair, and the duration.
-#[derive(Drop)]
+#[derive(Clone, Copy)]
 pub struct Setting {
     pub index: usize,
     pub lines: usize,
@@ -18,14 +20,14 @@ pub struct Setting {
 }
 
 // What a rate and a duration settle.
-#[derive(Drop)]
+#[derive(Clone, Copy)]
 pub enum Settled {
     Known(Setting),
     Unknown,
 }
 
 // A rate's index and the bits of its bandwidth.
-#[derive(Drop)]
+#[derive(Clone, Copy)]
 pub enum Rated {
     Rate(usize, usize),
     NoRate,

@@ -2,6 +2,7 @@
 // specs/Shape.antt.
 // Inner: `frame_side` stands over it, and `writer_fits` over `joint_end`, which asks nothing. It asks for a frame of 20 to 400 bytes with
 // the shape inside.
+#![tactic(auto)]
 ghost use Rattle.std.specs.Prelude.{◌≡◌, ◌≤◌, ◌<◌};
 ghost use Rattle.frame_settings.specs.Settings.{Sized};
 ghost use Rattle.frame_shape.specs.Shape.{joint_end, shape_of, shape_given};
@@ -10,7 +11,7 @@ ghost use Rattle.frame_shape.specs.Sound.{GoodShape};
 use frame_bits::read_bits;
 
 // Document 01's shape: the first and the second five bits, the mode bit, the gain, the sign bit and the joint index.
-#[derive(Drop)]
+#[derive(Clone, Copy)]
 pub struct Shape {
     pub low: u8,
     pub high: u8,
@@ -20,7 +21,7 @@ pub struct Shape {
     pub joint: u32,
 }
 
-#[derive(Drop)]
+#[derive(Clone, Copy)]
 pub enum ShapeRead {
     Value(Shape, usize),
     Cause(u8),

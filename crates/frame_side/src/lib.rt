@@ -2,6 +2,7 @@
 // leaves a frame of 20 bytes.
 // Inner: `frame_answers`, `frame_spectral`, `frame_arithmetic` and `frame` stand over it, `writer_fits` and `writer_side` over `last_pair`
 // and `second_flag`. It asks for a known setting and a frame of 20 to 400 bytes.
+#![tactic(auto)]
 ghost use Rattle.std.specs.Prelude.{◌≡◌, ◌≤◌, ◌<◌};
 ghost use Rattle.frame_settings.specs.Settings.{Known, Sized};
 ghost use Rattle.frame_side.specs.Side.{head_of, head_given, last_pair, second_flag, side_of, side_given};
@@ -13,7 +14,7 @@ pub use frame_shape::Shape;
 use frame_shape::{ShapeRead, read_shape};
 use widening::wide;
 
-#[derive(Drop)]
+#[derive(Clone, Copy)]
 pub struct Head {
     pub bandwidth: u8,
     pub last_line: u16,
@@ -21,14 +22,14 @@ pub struct Head {
     pub gain: u8,
 }
 
-#[derive(Drop)]
+#[derive(Clone, Copy)]
 pub struct Flags {
     pub tns_0: u8,
     pub tns_1: u8,
     pub pitch_present: u8,
 }
 
-#[derive(Drop)]
+#[derive(Clone, Copy)]
 pub struct Tail {
     pub filter_flag: u8,
     pub pitch_index: u16,
@@ -36,7 +37,7 @@ pub struct Tail {
 }
 
 // The side information; a field that is not sent is 0.
-#[derive(Drop)]
+#[derive(Clone, Copy)]
 pub struct Side {
     pub head: Head,
     pub flags: Flags,
@@ -44,27 +45,27 @@ pub struct Side {
     pub tail: Tail,
 }
 
-#[derive(Drop)]
+#[derive(Clone, Copy)]
 pub enum HeadRead {
     Value(Head, usize),
     Cause(u8),
 }
 
 // The flags with the next cursor.
-#[derive(Drop)]
+#[derive(Clone, Copy)]
 pub struct FlagsRead {
     pub flags: Flags,
     pub next: usize,
 }
 
 // The tail with the next cursor.
-#[derive(Drop)]
+#[derive(Clone, Copy)]
 pub struct TailRead {
     pub tail: Tail,
     pub next: usize,
 }
 
-#[derive(Drop)]
+#[derive(Clone, Copy)]
 pub enum SideRead {
     Value(Side, usize),
     Cause(u8),

@@ -2,6 +2,7 @@
 // buffers. The function equals its definition in specs/Spectral.antt.
 // Inner: `frame_arithmetic` stands over it. It asks for a known setting, a frame of 20 to 400 bytes, buffers of its line count, and cursors
 // of the steps before.
+#![tactic(auto)]
 ghost use Rattle.std.specs.Prelude.{◌≡◌, ◌≤◌};
 ghost use Rattle.frame_settings.specs.Settings.{Known};
 ghost use Rattle.frame_spectral.specs.Spectral.{spectral_from, spectral_given, KeptOnCause};
@@ -17,7 +18,7 @@ use frame_side::Head;
 
 // The number of symbols taken, that of the residual bits and the side cursor, or a cause. Lines and residual bits stand in the lent
 // buffers.
-#[derive(Drop)]
+#[derive(Clone, Copy)]
 pub enum SpectralRead {
     Value(u16, u16, usize),
     Cause(u8),

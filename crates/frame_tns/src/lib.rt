@@ -1,6 +1,7 @@
 // The TNS data (5.4.2.7): a filter's order and coefficients. Each function equals its definition in specs/Tns.antt.
 // Inner: `frame_answers` cites it, `frame_arithmetic` stands over it. It asks for a frame of 20 to 400 bytes and a setting's duration, for
 // the TNS tables, for room of zeros and for a cursor of `frame_coder`.
+#![tactic(auto)]
 ghost use Rattle.std.specs.Prelude.{◌≡◌, ◌≤◌, ◌<◌, length};
 ghost use Rattle.frame_tns.specs.Tns.{unused, coefficients_of, coefficients_given, filter_of, filter_given};
 ghost use Rattle.frame_coder.specs.Sound.{Ready};
@@ -10,14 +11,14 @@ use frame_coder::{Coder, Symbol, decode};
 use frame_settings::{highest_order, tns_weighting};
 
 // The next cursor, or the cause of a bit error; the coefficients stand in the lent slice.
-#[derive(Drop)]
+#[derive(Clone, Copy)]
 pub enum CoefficientsRead {
     Value(Coder),
     Cause(u8),
 }
 
 // The order with the next cursor, or the cause of a bit error; the coefficients stand in the lent slice.
-#[derive(Drop)]
+#[derive(Clone, Copy)]
 pub enum FilterRead {
     Value(u8, Coder),
     Cause(u8),

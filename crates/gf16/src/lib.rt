@@ -1,11 +1,13 @@
 // The field of 16 that Annex A's code words are made of: the semi-octet with its zero, its one, sum, product, inverse
 // and logarithm. It stands over nothing. Each operation equals its definition in specs/Field.antt for every value of the inner byte, and
 // proofs/Laws.antt has the field's laws. Nothing outside this crate depends on how a product is computed.
+#![tactic(auto)]
+
 ghost use Rattle.std.specs.Prelude.{◌≡◌, ◌*◌, ◌/◌, ◌%◌, ◌^◌, ◌≤◌, eqb};
 ghost use Rattle.gf16.specs.Field.{sum, product, power, inverse, logarithm};
 
 // An element of the field (document 01: semi-octet). A sum is that of the whole byte; the other operations look at the low four bits.
-#[derive(Drop)]
+#[derive(Clone, Copy)]
 pub struct SemiOctet(pub u8);
 
 impl SemiOctet {

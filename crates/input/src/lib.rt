@@ -1,10 +1,11 @@
 // Reading what is lent to a program, to its end, and telling a read that fails from the end. It stands over the C library's read,
 // whose effect no contract covers: what is promised is how much was read.
+#![tactic(auto)]
 ghost use Rattle.std.specs.Prelude.{length};
 ghost use Rattle.input.specs.Input.{InputFits};
 
 // How much was read before the input ended or the buffer was full.
-#[derive(Drop)]
+#[derive(Clone, Copy)]
 pub enum Input {
     Bytes(usize),
     Failed,

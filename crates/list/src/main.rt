@@ -1,6 +1,7 @@
 // Lists the session record on standard input: `records N` and a line for each entry, `damaged`, or `too long`.
 // It stands over `record`, whose proved `list` makes the text, and over the C library's read and write, whose effects no
 // contract covers: those are tested. A read or a write that fails is said on standard error.
+#![tactic(auto)]
 use input::Input;
 use libc::{STDERR_FILENO, STDIN_FILENO, STDOUT_FILENO};
 use record_listing::Listed;

@@ -1,13 +1,14 @@
 // What the functions of the session record answer, and document 01's number of each answer (specs/Answers.antt). It stands over
 // `record_bytes`, whose `Located` says where an entry that was found stands.
 // Inner: `record` and `record_moving` stand over it and hand the answers on to callers. It asks nothing.
+#![tactic(auto)]
 ghost use Rattle.std.specs.Prelude.{◌≡◌};
 ghost use Rattle.record_answers.specs.Answers.{made_number, counted_answer, found_answer, added_answer, moved_answer};
 
 use record_bytes::Located;
 
 // What making a record answers.
-#[derive(Drop)]
+#[derive(Clone, Copy)]
 pub enum Made {
     Empty,
     NoForm,
@@ -28,7 +29,7 @@ impl Made {
 }
 
 // What asking for the number of entries answers.
-#[derive(Drop)]
+#[derive(Clone, Copy)]
 pub enum Counted {
     Entries(u32),
     NoForm,
@@ -49,7 +50,7 @@ impl Counted {
 }
 
 // What asking for an entry answers.
-#[derive(Drop)]
+#[derive(Clone, Copy)]
 pub enum Found {
     At(Located),
     NoForm,
@@ -72,7 +73,7 @@ impl Found {
 }
 
 // What adding an entry answers: the new used length, or a refusal.
-#[derive(Drop)]
+#[derive(Clone, Copy)]
 pub enum Added {
     Used(u32),
     BadSetting,
@@ -95,7 +96,7 @@ impl Added {
 }
 
 // What moving a record to the other form answers: the used length of what was written, or a refusal.
-#[derive(Drop)]
+#[derive(Clone, Copy)]
 pub enum Moved {
     Used(u32),
     NotRecord,

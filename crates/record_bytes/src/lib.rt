@@ -2,6 +2,8 @@
 // stands over `record_forms`. specs/ says which bytes a list of entries is (Layout) and how they are read (Reading); proofs/Inverse.antt
 // shows that reading finds exactly that list.
 // Inner: `record_answers`, `record` and what stands over them. It asks for places inside the bytes; `walk` asks nothing.
+#![tactic(auto)]
+
 ghost use Rattle.std.specs.Prelude.{◌≡◌, cond, ◌+◌, ◌≤◌, ◌<◌, length, eqb};
 ghost use Rattle.record_forms.specs.declared.Form.TheVariants.{One, Two};
 ghost use Rattle.record_bytes.specs.Reading.{number, bits_at, entry_before, may_be, read_record};
@@ -11,7 +13,7 @@ use record_forms::{Form, in_range};
 use widening::{wide, wide4};
 
 // Where an entry's frame stands in the record, and the entry's fields.
-#[derive(Drop)]
+#[derive(Clone, Copy)]
 pub struct Located {
     pub start: u32,
     pub length: u16,
@@ -21,14 +23,14 @@ pub struct Located {
 }
 
 // What stands before a place of the record.
-#[derive(Drop)]
+#[derive(Clone, Copy)]
 pub enum Step {
     Entry(Located),
     Broken,
 }
 
 // What the whole walk finds: the number of entries with where the one that was asked for ends, or no record.
-#[derive(Drop)]
+#[derive(Clone, Copy)]
 pub enum Walked {
     Whole(u32, usize),
     Broken,

@@ -1,19 +1,21 @@
 // The two forms of a session record, as data: how long an entry's trailer and the record's end are (specs/Forms.antt), which form a number
 // names; and the ranges of an entry's fields (specs/Ranges.antt). It stands over nothing.
 // Inner: `record_bytes` and what stands over it. It asks nothing but for `bits_in_range`, whose caller has tested the count.
+#![tactic(auto)]
+
 ghost use Rattle.std.specs.Prelude.{◌≡◌, ◌≤◌};
 ghost use Rattle.record_forms.specs.Forms.{trailer_size, end_size, which_form};
 ghost use Rattle.record_forms.specs.Ranges.{bits_in_range, in_range, held_bits};
 
 // A record's form.
-#[derive(Drop)]
+#[derive(Clone, Copy)]
 pub enum Form {
     One,
     Two,
 }
 
 // The form that a number names.
-#[derive(Drop)]
+#[derive(Clone, Copy)]
 pub enum Which {
     Is(Form),
     NoForm,

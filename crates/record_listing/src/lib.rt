@@ -1,5 +1,6 @@
 // The listing of a record of either form, built from the end of a buffer back, since that is how the entries are read: one more step an
 // entry. It stands over `record_bytes`. `list` is total and equals its definition in specs/Listing.antt, the lent buffer too.
+#![tactic(auto)]
 ghost use Rattle.std.specs.Prelude.{◌≡◌, ◌+◌, ◌≤◌, ◌<◌, length};
 ghost use Rattle.record_bytes.specs.Steps.{Whole, Placed};
 ghost use Rattle.record_listing.specs.Listing.{leading, field, line, lines_in, known_in};
@@ -10,14 +11,14 @@ use record_forms::Form;
 use widening::{wide, wide2, wide4};
 
 // Where the listing starts in the buffer.
-#[derive(Drop)]
+#[derive(Clone, Copy)]
 pub enum Listed {
     From(usize),
     NoRoom,
 }
 
 // What the bytes are: a record of a form, with so many entries, or none.
-#[derive(Drop)]
+#[derive(Clone, Copy)]
 pub enum Known {
     Record(Form, u32),
     Damaged,

@@ -1,5 +1,6 @@
 // A frame read into the fields of C's struct, with document 01's numbers. It stands over `frame`.
 // Inner: `silberlaus_entries` and `silberlaus` stand over it. It asks nothing.
+#![tactic(auto)]
 ghost use Rattle.std.specs.Prelude.{◌≡◌, length};
 ghost use Rattle.frame_settings.specs.Settings.{last_cause_of, setting_of};
 ghost use Rattle.frame.specs.Frame.{judged_of};
@@ -12,7 +13,7 @@ use frame::{Answer, Fields, Flags, Head, Reading, Shape, Side, Tail};
 
 // C's silberlaus_frame.
 #[repr(C)]
-#[derive(Drop)]
+#[derive(Clone, Copy)]
 pub struct SilberlausFrame {
     pub number: u8,
     pub cause: u8,

@@ -1,6 +1,7 @@
 // A session record moved to the other form, with document 01's numbers and C's struct in place of the enum answer. It stands over
 // `record_moving` and `silberlaus_records`.
 // Inner: `silberlaus` stands over it. It asks nothing.
+#![tactic(auto)]
 ghost use Rattle.std.specs.Prelude.{◌≡◌};
 ghost use Rattle.record_forms.specs.declared.Form.TheVariants.{One, Two};
 ghost use Rattle.record_answers.specs.Answers.{moved_answer};

@@ -1,6 +1,7 @@
 // The session record in both forms with document 01's numbers and C's structs in place of the enum answers: new, entries, entry and add.
 // It stands over `record`.
 // Inner: `silberlaus` stands over it. It asks nothing.
+#![tactic(auto)]
 ghost use Rattle.std.specs.Prelude.{◌≡◌};
 ghost use Rattle.record_forms.specs.declared.Form.TheVariants.{Two};
 ghost use Rattle.record_bytes.specs.Located.{nowhere};
@@ -12,7 +13,7 @@ use record::{Added, Counted, Found, Located};
 
 // C's silberlaus_entries.
 #[repr(C)]
-#[derive(Drop)]
+#[derive(Clone, Copy)]
 pub struct SilberlausEntries {
     pub number: u8,
     pub entries: u32,
@@ -20,7 +21,7 @@ pub struct SilberlausEntries {
 
 // C's silberlaus_entry.
 #[repr(C)]
-#[derive(Drop)]
+#[derive(Clone, Copy)]
 pub struct SilberlausEntry {
     pub number: u8,
     pub request: u8,
@@ -32,7 +33,7 @@ pub struct SilberlausEntry {
 
 // C's silberlaus_added.
 #[repr(C)]
-#[derive(Drop)]
+#[derive(Clone, Copy)]
 pub struct SilberlausAdded {
     pub number: u8,
     pub used: u32,

@@ -1,6 +1,7 @@
 // What a caller asks before he lends buffers: a frame's bytes in a slot, and the lines of a rate and a duration. It stands over
 // `slot_sizes` and `frame_settings`.
 // Inner: `silberlaus` stands over it. It asks nothing.
+#![tactic(auto)]
 ghost use Rattle.std.specs.Prelude.{◌≡◌};
 ghost use Rattle.slot_laws.specs.Sizes.{IsFrameSize};
 ghost use Rattle.frame_settings.specs.Settings.{line_count};

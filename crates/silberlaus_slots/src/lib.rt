@@ -1,5 +1,6 @@
 // Protecting and unprotecting with document 01's numbers and C's struct in place of the enum answers. It stands over `slot`.
 // Inner: `silberlaus` stands over it. It asks nothing.
+#![tactic(auto)]
 ghost use Rattle.std.specs.Prelude.{◌≡◌};
 ghost use Rattle.slot_protection.specs.Protect.{Protects};
 ghost use Rattle.slot.specs.Unprotect.{Recordable, Unprotects};
@@ -9,7 +10,7 @@ use slot::Reception;
 
 // C's silberlaus_unprotected.
 #[repr(C)]
-#[derive(Drop)]
+#[derive(Clone, Copy)]
 pub struct SilberlausUnprotected {
     pub number: u8,
     pub request: u8,

@@ -1,5 +1,6 @@
 // A frame written from the fields of C's struct, with document 01's numbers. It stands over `writer`.
 // Inner: `silberlaus` stands over it. It asks nothing.
+#![tactic(auto)]
 ghost use Rattle.std.specs.Prelude.{◌≡◌};
 ghost use Rattle.writer.specs.Writer.{telling, answered};
 ghost use Rattle.writer.specs.Trip.{Writes};
@@ -12,7 +13,7 @@ use writer::Written;
 
 // C's silberlaus_written.
 #[repr(C)]
-#[derive(Drop)]
+#[derive(Clone, Copy)]
 pub struct SilberlausWritten {
     pub number: u8,
     pub residual_bits: u16,

@@ -1,10 +1,11 @@
 // What protecting and unprotecting a slot answer, and document 01's number of each answer (specs/Answers.antt).
 // Inner: `slot_protection` and `slot` stand over it, and `slot` hands the answers on to callers. It asks nothing.
+#![tactic(auto)]
 ghost use Rattle.std.specs.Prelude.{◌≡◌};
 ghost use Rattle.slot_answers.specs.Answers.{protected_number, told_of};
 
 // Whether a slot was made; document 01's 0, 1 and 2.
-#[derive(Drop)]
+#[derive(Clone, Copy)]
 pub enum Protection {
     Protected,
     Setting,
@@ -25,7 +26,7 @@ impl Protection {
 }
 
 // What unprotecting found: the request and the counts of changed semi-octets and of changed bits, or document 01's refusal 1, 2, 3 or 4.
-#[derive(Drop)]
+#[derive(Clone, Copy)]
 pub enum Reception {
     Accepted(u8, u16, u16),
     Setting,

@@ -1,6 +1,7 @@
 // Many slots of one size and mode at once: the tables and the room that unprotecting needs are made once for all of them.
 // Promised for every input: for each slot the four entries and the frame's place hold what `slot::unprotect` gives for that slot alone, by
 // the same definition, whatever the slots beside it are; or 1 or 2, and nothing is done. specs/Each.antt of `slot_each` says it.
+#![tactic(auto)]
 ghost use Rattle.std.specs.Prelude.{◌≡◌};
 ghost use Rattle.laws.specs.Decides.{Decides};
 ghost use Rattle.slot_laws.specs.Sizes.{InRange};
@@ -8,7 +9,7 @@ ghost use Rattle.slot_each.specs.Each.{five, Fitting, UnprotectsEach};
 ghost use Rattle.slot_batch.specs.Answers.{receptions_number};
 
 // Whether the slots have their answers; document 01's 0, 1 and 2.
-#[derive(Drop)]
+#[derive(Clone, Copy)]
 pub enum Receptions {
     Given,
     Setting,

@@ -1,6 +1,7 @@
 // A received slot unpacked, and told where it is clean (A.53 to A.55): its data put in order as they came, where every word's check
 // semi-octets are those of its data. Inner: `slot_gathering` and `slot_repair` stand over it. It asks for a size and a mode in range and
 // for rooms of their length.
+#![tactic(auto)]
 ghost use Rattle.std.specs.Prelude.{◌≡◌, true, ◌-◌, ◌*◌, ◌≤◌, length};
 ghost use Rattle.laws.specs.Tab.{Below};
 ghost use Rattle.code_word_laws.specs.Word.{distance};

@@ -1,5 +1,6 @@
 // The words of a received slot taken from their places, signature undone (A.53 to A.55), and the data of corrected words put in order with
 // their counts summed. Inner: `slot_repair` stands over it. It asks for a size and a mode in range and for rooms of their length.
+#![tactic(auto)]
 ghost use Rattle.std.specs.Prelude.{◌≡◌, ◌*◌, length};
 ghost use Rattle.slot_laws.specs.Sizes.{word_length};
 ghost use Rattle.slot_laws.specs.Order.{Data};
@@ -8,7 +9,7 @@ ghost use Rattle.slot_clean.specs.Inner.{word_from, SemiOctetsOf};
 ghost use Rattle.slot_gathering.specs.Inner.{Rooms, AllArrived, IsGathered};
 
 // Whether every word was corrected: the counts of all changed semi-octets and bits, or a word beyond repair.
-#[derive(Drop)]
+#[derive(Clone, Copy)]
 pub enum Outcome {
     Repaired(u16, u16),
     Beyond,

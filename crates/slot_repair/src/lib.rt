@@ -2,6 +2,7 @@
 // corrected with one table, and their data put in order. `clean` and `correct` work in room and with tables that are lent, for one slot or
 // for many; `correct_slot` makes them for one.
 // Inner: `slot` and `slot_judging` stand over it. It asks for a size and a mode in range, for rooms of their length and for the tables.
+#![tactic(auto)]
 ghost use Rattle.std.specs.Prelude.{◌≡◌, true, ◌-◌, ◌*◌, length};
 ghost use Rattle.code_word_laws.specs.Word.{distance};
 ghost use Rattle.code_word_laws.specs.Checks.{check_rows};

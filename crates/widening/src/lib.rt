@@ -1,6 +1,7 @@
 // Numbers made wider: nothing is lost, and each function says so, so that a proof reads the value.
 // Inner: `code_word_syndromes`, `code_word_errors`, `day_sample` and the crates of `frame`, `writer` and `record` stand over it. It asks
 // nothing.
+#![tactic(auto)]
 ghost use Rattle.std.specs.Prelude.{◌≡◌, ◌<◌};
 
 // A byte as a length or a place.

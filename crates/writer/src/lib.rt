@@ -2,6 +2,7 @@
 // request 02 §5). Promised for every input: the answer and the lent frame are those of specs/Writer.antt, or a refusal 1, 2 or 8 in
 // document 02's order, which leaves the frame as lent; and what was written reads back as given, but for the residual bits that were not
 // sent (specs/Trip.antt).
+#![tactic(auto)]
 ghost use Rattle.std.specs.Prelude.{◌≡◌, ◌≤◌, length};
 ghost use Rattle.frame_settings.specs.Settings.{Known};
 ghost use Rattle.frame_answers.specs.Answers.{told};
@@ -18,7 +19,7 @@ use writer_frame::write_fitting;
 use writer_steps::FrameSent;
 
 // The number of residual bits sent, the first ones; or document 01's refusal 1, 2 or 8.
-#[derive(Drop)]
+#[derive(Clone, Copy)]
 pub enum Written {
     Sent(u16),
     Setting,

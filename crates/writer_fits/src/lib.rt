@@ -1,6 +1,7 @@
 // What can be written (request 02 §5): the fields in their ranges, lines and residual bits that go with them. Each function equals its
 // definition in specs/Fits.antt of `writer_laws`.
 // Inner: `writer` stands over it. It asks for a known setting, and for at most 400 lines and residual bits.
+#![tactic(auto)]
 ghost use Rattle.std.specs.Prelude.{◌≡◌, cond, ◌-◌, ◌^◌, ◌≤◌, ◌<◌, ltb, length};
 ghost use Rattle.frame_bits.specs.Fields.{list_fits};
 ghost use Rattle.frame_settings.specs.Settings.{Known};
@@ -124,7 +125,7 @@ pub fn fields_fit(r: Setting, f: Fields, first: &[u8], second: &[u8]) -> bool
 }
 
 // Whether the lines are in their range, and how many are not 0.
-#[derive(Drop)]
+#[derive(Clone, Copy)]
 pub struct Lines {
     pub fit: bool,
     pub count: usize,

@@ -1,16 +1,17 @@
 // What the writer's steps hand each other, and in specs/ what they ask and promise of it beside the definitions of `writer_laws`. No code.
 // Inner: the crates of `writer` stand over it.
+#![tactic(auto)]
 use frame_coder::Coder;
 
 // The side stream: the number of bits written, and the last of them that fill no byte yet.
-#[derive(Drop)]
+#[derive(Clone, Copy)]
 pub struct Cursor {
     pub at: usize,
     pub held: usize,
 }
 
 // A pair behind its last symbol: the symbol, its level, and both streams.
-#[derive(Drop)]
+#[derive(Clone, Copy)]
 pub struct Walked {
     pub symbol: usize,
     pub level: usize,
@@ -19,7 +20,7 @@ pub struct Walked {
 }
 
 // A pair behind its signs: the next context, and both streams.
-#[derive(Drop)]
+#[derive(Clone, Copy)]
 pub struct PairSent {
     pub context: usize,
     pub coder: Coder,
@@ -27,14 +28,14 @@ pub struct PairSent {
 }
 
 // Both streams behind the pairs; or the frame is too small.
-#[derive(Drop)]
+#[derive(Clone, Copy)]
 pub enum PairsSent {
     Sent(Coder, Cursor),
     TooSmall,
 }
 
 // The number of residual bits sent; or the frame is too small.
-#[derive(Drop)]
+#[derive(Clone, Copy)]
 pub enum FrameSent {
     Sent(usize),
     TooSmall,

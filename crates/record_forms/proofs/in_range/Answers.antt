@@ -4,15 +4,13 @@ use mathlib.Core.Bool.{and-false}
 use native.Mathlib.Omega.{arith}
 use borrow.Author.Tests.{le-leb, lt-leb}
 use Rattle.record_forms.specs.Ranges.{in_range}
-use borrow.Author.Rules.{rules}
-use Rattle.record_forms.proofs.in_range.Statement.{statement}
-use Rattle.record_forms.proofs.in_range.Tie as tie
+use Rattle.record_forms.proofs.in_range.Goals as goal
 
-returns : tie.Need-returns
+pub returns-in-0-to-162 : goal.returns-in-0-to-162
 unfolding in_range
-returns c =
-    let a = c.before.before.before.before.before.args in
-    c.bits-in-range.ensures
+returns-in-0-to-162 c =
+    let a = c.args in
+    c.bits_in_range.ensures
     ∙ simp (
       le-leb a.request 3 (omega arith),
       le-leb a.count 162 (omega arith),
@@ -20,32 +18,26 @@ returns c =
       le-leb a.length 400 (omega arith),
     )
 
-returns-2 : tie.Need-returns-2
+pub returns-in_default-count : goal.returns-in_default-count
 unfolding in_range
-returns-2 c =
-    let a = c.before.before.before.before.args in
+returns-in_default-count c =
+    let a = c.args in
     simp (le-leb a.request 3 (omega arith), lt-leb a.count 162 (omega arith))
 
-returns-3 : tie.Need-returns-3
+pub returns-in_default-length : goal.returns-in_default-length
 unfolding in_range
-returns-3 c =
-    let a = c.before.before.args in
+returns-in_default-length c =
+    let a = c.args in
     simp (le-leb a.request 3 (omega arith), lt-leb 20 a.length (omega arith), and-false)
 
-returns-4 : tie.Need-returns-4
+pub returns-in_default-length-2 : goal.returns-in_default-length-2
 unfolding in_range
-returns-4 c =
-    let a = c.before.before.before.args in
+returns-in_default-length-2 c =
+    let a = c.args in
     simp (le-leb a.request 3 (omega arith), lt-leb a.length 400 (omega arith), and-false)
 
-returns-5 : tie.Need-returns-5
+pub returns-in_default : goal.returns-in_default
 unfolding in_range
-returns-5 c =
-    let a = c.before.args in
+returns-in_default c =
+    let a = c.args in
     simp (lt-leb a.request 3 (omega arith))
-
-pub in-range-spec : {M : Type 1} → statement M
-in-range-spec =
-    tie.close
-    (tie.spec
-    (λ c κs. search rules) returns returns-2 returns-3 returns-4 returns-5)
