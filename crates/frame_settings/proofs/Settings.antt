@@ -12,7 +12,7 @@ use native.Mathlib.Nat.{mul-le-mul}
 use lib.Dec.{T, eqb, ltb, leb, eqb→eq, ltb→lt, leb→le}
 use types.Run.{OneOf}
 use borrow.Author.Tests.{eqb-true, eq-eqb, ne_eqb, le-leb}
-use Rattle.laws.proofs.Every.{both, implies, implies-elim, both_left, both_right, every, at}
+use Rattle.laws.proofs.Every.{both, implies, implies-elim, both_left, both_right, at}
 use Rattle.frame_settings.specs.Settings.{Rate, rate, rates, durations, pair_bits, setting, rate_in, listed, setting_for}
 use Rattle.frame_settings.specs.Settings.{setting_of, lines_at, line_count, half_of, Known, KnownSetting}
 use Rattle.frame_settings.specs.declared.Setting.{Setting}
