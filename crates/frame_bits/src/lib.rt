@@ -3,6 +3,7 @@
 // Inner: the crates of `frame` stand over it, those of `writer` over its definitions. It asks for a frame of 20 to 400 bytes, for a field
 // of at most 25 bits that starts among the first 128.
 #![tactic(auto)]
+
 ghost use Rattle.std.specs.Prelude.{◌≡◌, ◌+◌, ◌*◌, ◌≤◌, ◌<◌, length};
 ghost use Rattle.frame_settings.specs.Settings.{Sized};
 ghost use Rattle.frame_bits.specs.Bits.{bit_of, read_bit, bit_given};
