@@ -1,6 +1,7 @@
 // What a mode sets and what a word may be: the distance, the modes and lengths that are taken, and elements that are semi-octets.
 // Inner: `code_word` and the crates of `slot` stand over it. `distance` asks for mode 2, 3 or 4.
 #![tactic(auto)]
+
 ghost use Rattle.std.specs.Prelude.{◌+◌, ◌≤◌, ◌<◌, length, drop};
 ghost use Rattle.laws.specs.Decides.{Decides};
 ghost use Rattle.code_word_laws.specs.Word.{SemiOctets, Fits, IsDistance};
