@@ -1,8 +1,11 @@
-// Reading what is lent to a program, to its end, and telling a read that fails from the end. It stands over the C library's read,
-// whose effect no contract covers: what is promised is how much was read.
+// Reading what is lent to a program, to its end, and telling a read that fails from the end. It stands over the library's readers,
+// of whose bytes no contract speaks: what is promised is how much was read.
 #![tactic(auto)]
+
 ghost use Rattle.std.specs.Prelude.{length};
 ghost use Rattle.input.specs.Input.{InputFits};
+
+use std::io::Read;
 
 // How much was read before the input ended or the buffer was full.
 #[derive(Clone, Copy)]
@@ -12,16 +15,14 @@ pub enum Input {
 }
 
 // Reads to the end of the input, however it arrives, or until the buffer is full.
-pub fn read_all(fd: i32, buffer: &mut [u8]) -> Input
+pub fn read_all<R: Read>(from: &mut R, buffer: &mut [u8]) -> Input
     ensures { InputFits result (length buffer.old) }
 {
     let mut done = 0;
     while done < buffer.len() {
-        let got = libc::read(fd, &mut buffer[done..]);
-        if got < 0 {
+        let Ok(more) = from.read(&mut buffer[done..]) else {
             return Input::Failed;
-        }
-        let more = io::count(got, &buffer[done..]);
+        };
         if more == 0 {
             return Input::Bytes(done);
         }

@@ -1,16 +1,17 @@
 // Lists the session record on standard input: `records N` and a line for each entry, `damaged`, or `too long`.
-// It stands over `record`, whose proved `list` makes the text, and over the C library's read and write, whose effects no
-// contract covers: those are tested. A read or a write that fails is said on standard error.
+// It stands over `record_listing`, whose proved `list` makes the text, and over the library's standard streams, of whose bytes no
+// contract speaks: those are tested. A read or a write that fails is said on standard error.
 #![tactic(auto)]
-use input::Input;
-use libc::{STDERR_FILENO, STDIN_FILENO, STDOUT_FILENO};
-use record_listing::Listed;
 
-fn main() {
+use input::Input;
+use record_listing::Listed;
+use std::io::Write;
+
+fn main(rt: HostRuntime) {
     let mut bytes = [0u8; 65537];
-    let input = input::read_all(STDIN_FILENO, &mut bytes);
+    let input = input::read_all(&mut rt.stdin(), &mut bytes);
     let Input::Bytes(n) = input else {
-        io::write_all(STDERR_FILENO, b"list: standard input cannot be read\n");
+        say(&rt, b"list: standard input cannot be read\n");
         return;
     };
     let mut text = [0u8; 65536];
@@ -19,8 +20,13 @@ fn main() {
     let Listed::From(at) = listed else {
         return;
     };
-    if io::write_all(STDOUT_FILENO, &text[at..]) {
+    if rt.stdout().write_all(&text[at..]).is_ok() {
         return;
     }
-    io::write_all(STDERR_FILENO, b"list: standard output cannot be written\n");
+    say(&rt, b"list: standard output cannot be written\n");
+}
+
+// Nothing is left to be done where standard error cannot be written.
+fn say(rt: &HostRuntime, text: &[u8]) {
+    let _ = rt.stderr().write_all(text);
 }
