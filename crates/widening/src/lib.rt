@@ -2,6 +2,7 @@
 // Inner: `code_word_syndromes`, `code_word_errors`, `day_sample` and the crates of `frame`, `writer` and `record` stand over it. It asks
 // nothing.
 #![tactic(auto)]
+
 ghost use Rattle.std.specs.Prelude.{◌≡◌, ◌<◌};
 
 // A byte as a length or a place.
