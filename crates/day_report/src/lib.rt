@@ -1,6 +1,7 @@
 // The report of a day: what the walk counted (`tally`), in words that want no papers. It stands over nothing.
 // Inner: `day_way` and `day` stand over it. It asks nothing.
 #![tactic(auto)]
+
 ghost use Rattle.std.specs.Prelude.{◌≤◌, length};
 
 use tally::Tally;

@@ -1,6 +1,7 @@
 // What protecting and unprotecting a slot answer, and document 01's number of each answer (specs/Answers.antt).
 // Inner: `slot_protection` and `slot` stand over it, and `slot` hands the answers on to callers. It asks nothing.
 #![tactic(auto)]
+
 ghost use Rattle.std.specs.Prelude.{◌≡◌};
 ghost use Rattle.slot_answers.specs.Answers.{protected_number, told_of};
 
