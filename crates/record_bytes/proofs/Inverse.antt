@@ -107,8 +107,8 @@ module _ (f : Form) where
   step_back : (s q : List ℕ) (es : List RecordEntry) (e : RecordEntry) (later : List RecordEntry)
       → s ≡ entries_bytes f es ++ (entry_bytes f e ++ q)
       → EntryInRange e
-      → read_back f s (length (entries_bytes f (es ++ (e ∷ [])))) (length (es ++ (e ∷ []))) later ≡ read_back f s (length (entries_bytes f es))
-      (length es) (held f e ∷ later)
+      → read_back f s (length (entries_bytes f (es ++ (e ∷ [])))) (length (es ++ (e ∷ []))) later
+      ≡ read_back f s (length (entries_bytes f es)) (length es) (held f e ∷ later)
   unfolding read_back
   step_back s q es e later z r =
       let p : List ℕ = entries_bytes f es in

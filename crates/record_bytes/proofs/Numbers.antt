@@ -45,7 +45,10 @@ number-big (suc k) n p q h =
     let b : get_or (p ++ (big k (n / 256) ++ (n % 256 ∷ q))) (length p + k) 0 ≡ n % 256 =
     ap (λ (t : List ℕ). get_or t (length p + k) 0) (sym (append_assoc p (big k (n / 256)) (n % 256 ∷ q)))
     ∙ get_or_at (p ++ big k (n / 256)) (n % 256) q 0 (length p + k) l in
-    rw (a, ih, b) (div-add-mod' n 256)
+    let o : number (p ++ (big (suc k) n ++ q)) (length p) k ≡ n / 256 = ap (λ (t : List ℕ). number t (length p) k) a ∙ ih in
+    let g : get_or (p ++ (big (suc k) n ++ q)) (length p + k) 0 ≡ n % 256 = ap (λ (t : List ℕ). get_or t (length p + k) 0) a ∙ b in
+    ap (λ (x : ℕ). x * 256 + get_or (p ++ (big (suc k) n ++ q)) (length p + k) 0) o
+    ∙ ap (λ (y : ℕ). n / 256 * 256 + y) g ∙ div-add-mod' n 256
 
 -- what was read is what stands there
 pub big-number : (k : ℕ) (s : List ℕ) (at : ℕ) → Bytes s → at + k ≤ length s → take k (drop at s) ≡ big k (number s at k)
