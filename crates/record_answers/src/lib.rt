@@ -2,6 +2,7 @@
 // `record_bytes`, whose `Located` says where an entry that was found stands.
 // Inner: `record` and `record_moving` stand over it and hand the answers on to callers. It asks nothing.
 #![tactic(auto)]
+
 ghost use Rattle.std.specs.Prelude.{◌≡◌};
 ghost use Rattle.record_answers.specs.Answers.{made_number, counted_answer, found_answer, added_answer, moved_answer};
 
