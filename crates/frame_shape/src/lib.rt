@@ -3,6 +3,7 @@
 // Inner: `frame_side` stands over it, and `writer_fits` over `joint_end`, which asks nothing. It asks for a frame of 20 to 400 bytes with
 // the shape inside.
 #![tactic(auto)]
+
 ghost use Rattle.std.specs.Prelude.{◌≡◌, ◌≤◌, ◌<◌};
 ghost use Rattle.frame_settings.specs.Settings.{Sized};
 ghost use Rattle.frame_shape.specs.Shape.{joint_end, shape_of, shape_given};
