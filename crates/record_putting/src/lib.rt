@@ -2,6 +2,7 @@
 // `record_bytes`, whose specs say which bytes these are (Layout) and what putting is (Steps).
 // Inner: `record` and `record_moving`. It asks for places inside the buffer, and `put_entry` for a frame of 16 to 65,535 bytes.
 #![tactic(auto)]
+
 ghost use Rattle.std.specs.Prelude.{◌≡◌, cond, ◌++◌, ◌+◌, ◌≤◌, leb, length, take, drop};
 ghost use Rattle.record_forms.specs.Forms.{bits_size, trailer_size, end_size};
 ghost use Rattle.record_bytes.specs.Layout.{big, trailer_bytes, end_bytes};
