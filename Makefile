@@ -2,7 +2,7 @@
 # slots, frames and records; make bench-words: of code words alone. make faults, faults-slot, faults-frame, faults-writer,
 # faults-record: the tests notice what is wrong. make lc3-frame: frames of another encoder, where it is installed; list-frame:
 # such frames for the benchmark. make test-rust: the Rust crate.
-.PHONY: test day bench bench-words build-tests faults faults-slot faults-frame faults-writer faults-record lc3-frame list-frame
+.PHONY: test day bench bench-words build build-tests faults faults-slot faults-frame faults-writer faults-record lc3-frame list-frame
 .PHONY: test-rust clean
 .DELETE_ON_ERROR:
 
@@ -51,6 +51,8 @@ bench: $(BENCH_BUILT)/bench
 bench-words: $(BUILT)/bench
 	@$(BUILT)/bench
 
+build: target/staticlib/libsilberlaus.a target/staticlib/libword_calls.a target/bin/day target/bin/list
+
 build-tests: $(BUILT)/check $(BUILT)/bench $(SLOT_BUILT)/check $(FRAME_BUILT)/check target/tests/frame/check_reference \
 		$(WRITER_BUILT)/check target/tests/writer/check_reference $(RECORD_BUILT)/check $(BENCH_BUILT)/bench \
 		$(FACE_BUILT)/check $(FACE_BUILT)/from_cpp
@@ -82,17 +84,20 @@ test-rust:
 clean:
 	rm -rf target
 
-# rt builds a program and an archive from proved crates only; it leaves alone what has not changed, hence the touch. What it
-# says goes to a file, the crates that it has done to the reader; its status goes round the pipe.
-target/bin/day: $(RATTLE) crates/day/stdin crates/day/stdout
-	@echo 'Only proved code is run, so the library is proved first: some 5 minutes on two cores where nothing is proved yet.'
-	@mkdir -p target
-	@{ rt check day 2>&1; echo $$? >target/day.status; } | tee target/day.log | sed -un 's/^rt: \([a-z0-9_]* proved .*\)/    \1/p'
-	@[ "$$(cat target/day.status)" = 0 ] || { tail -n 25 target/day.log >&2; exit 1; }
-	@touch $@
+# rt builds a program and an archive from proved crates only, and leaves them in the crate's folder out/. What it says goes to a
+# file, the crates that it has done to the reader; its status goes round the pipe.
+target/bin/%: $(RATTLE) crates/%/stdin
+	@echo 'Only proved code is run, so the library is proved first: some 20 minutes on two cores where nothing is proved yet.'
+	@mkdir -p target/bin
+	@cd crates/$* && { rt run 2>&1 >../../target/$*.out <stdin; echo $$? >../../target/$*.status; } | tee ../../target/$*.log \
+		| sed -un 's/^fn \([a-z0-9_]*\)::main: proved.*/    \1 proved/p'
+	@[ "$$(cat target/$*.status)" = 0 ] || { tail -n 25 target/$*.log >&2; exit 1; }
+	@cp crates/$*/out/$* $@
 
 target/staticlib/lib%.a: $(RATTLE)
-	rt staticlib $*
+	@mkdir -p target/staticlib
+	@cd crates/$* && rt lib >../../target/$*.log 2>&1 || { tail -n 25 ../../target/$*.log >&2; exit 1; }
+	@cp crates/$*/out/lib$*.a $@
 
 $(BUILT)/check: $(WORDS)/check.c $(WORDS)/search.c $(CASES) $(CASES:.c=.h)
 $(BUILT)/bench: $(WORDS)/bench.c $(HAND) tests/common/said.c tests/common/said.h
