@@ -13,7 +13,7 @@
    byte as it was. What is checked first is named first in each list of refusals below. Where a call takes many slots, a slot
    that is refused is part of its answer, and no refusal of the call.
 
-   Linking. target/staticlib/libsilberlaus.a (`rt staticlib silberlaus`), for x86-64 and its System V calling convention.
+   Linking. target/staticlib/libsilberlaus.a (`rt lib silberlaus`), for x86-64 and its System V calling convention.
    It wants `memcpy` and `memset` of the C library or of your own, and nothing else. It keeps the red zone: a handler that
    runs on the stack of an interrupted call leaves the 128 bytes below its stack pointer alone.
 
