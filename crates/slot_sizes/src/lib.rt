@@ -2,6 +2,7 @@
 // Inner: the crates of `slot` and `day_sample` stand over it. It asks for a size and a mode in range; `frame_size`, which `slot` hands on
 // to callers, asks nothing.
 #![tactic(auto)]
+
 ghost use Rattle.std.specs.Prelude.{◌≡◌, ◌+◌, ◌*◌, ◌≤◌, ◌<◌};
 ghost use Rattle.slot_laws.specs.Sizes.{InRange, words, word_length, conceal_words, conceal};
 ghost use Rattle.slot_laws.specs.Sizes.{hash1, hash2, frame_size, IsHeadingSize, IsDataSize, IsFrameSize};
