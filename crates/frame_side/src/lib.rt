@@ -3,6 +3,7 @@
 // Inner: `frame_answers`, `frame_spectral`, `frame_arithmetic` and `frame` stand over it, `writer_fits` and `writer_side` over `last_pair`
 // and `second_flag`. It asks for a known setting and a frame of 20 to 400 bytes.
 #![tactic(auto)]
+
 ghost use Rattle.std.specs.Prelude.{◌≡◌, ◌≤◌, ◌<◌};
 ghost use Rattle.frame_settings.specs.Settings.{Known, Sized};
 ghost use Rattle.frame_side.specs.Side.{head_of, head_given, last_pair, second_flag, side_of, side_given};
