@@ -1,6 +1,7 @@
 // What making and correcting words answer, and document 01's number and the counts of each answer (specs/Answers.antt).
 // Inner: `code_word` stands over it and hands the answers on to callers. It asks nothing.
 #![tactic(auto)]
+
 ghost use Rattle.std.specs.Prelude.{◌≡◌};
 ghost use Rattle.code_word_answers.specs.Answers.{made_number, corrected_number, corrected_count, corrected_bits, answers_number};
 
