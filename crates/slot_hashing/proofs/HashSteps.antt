@@ -1,6 +1,7 @@
 -- What the code of the hashes asks: a push in the machine's operations, and a turn of the loops over semi-octets.
 -- Assumes nothing.
-use mathlib.Core.Path.{◌≡◌, refl, sym, ap, ◌∙◌}
+use mathlib.Core.Path.{◌≡◌, refl, sym, ap, subst, ◌∙◌}
+use mathlib.Core.Bool.{Bool, cond}
 use mathlib.Core.List.{List, ◌∷◌}
 use Prim.Native.Nat.{ℕ, suc, ◌+◌, ◌*◌, ◌-◌, ◌/◌, ◌%◌, ◌^◌, ◌≤◌, ◌<◌}
 use native.Mathlib.Omega.{arith}
@@ -101,7 +102,9 @@ first-forty size mode q e a r v h k g f =
     let y : r / 4 ≡ hash 17989 14 (bits_of (take e a)) = ap (λ (x : ℕ). x / 4) g ∙ hash-lowered 17989 14 2 (bits_of (take e a)) in
     let w : v ≡ pushed 17989 14 (q % 2) (pushed 17989 14 (q / 2 % 2) (hash 17989 14 (bits_of (take e a)))) =
     f ∙ ap (λ (x : ℕ). pushed 17989 14 (q % 2) (pushed 17989 14 (q / 2 % 2) x)) y in
-    rw (eq-eqb size 40 h) (rw k at w)
+    subst
+    (λ (b : Bool). v ≡ hash (cond b poly14 poly22) (8 * cond b 2 3 - 2) (q % 2 ∷ q / 2 % 2 ∷ bits_of (part_n size mode a)))
+    (sym (eq-eqb size 40 h)) (rw k at w)
 
 pub first-other : (size mode q e : ℕ) (a : List ℕ) (r v : ℕ) → (size ≡ 40 → ⊥) → e ≡ 2 * frame_size size mode - conceal size mode
     → r ≡ hash 4788009 22 (bits_of (take e a)) → v ≡ pushed 4788009 22 (q % 2) (pushed 4788009 22 (q / 2 % 2) r)
@@ -110,7 +113,9 @@ unfolding first_hash part_n hash1 hash poly22 powers
 first-other size mode q e a r v h k g f =
     let w : v ≡ pushed 4788009 22 (q % 2) (pushed 4788009 22 (q / 2 % 2) (hash 4788009 22 (bits_of (take e a)))) =
     f ∙ ap (λ (x : ℕ). pushed 4788009 22 (q % 2) (pushed 4788009 22 (q / 2 % 2) x)) g in
-    rw (ne_eqb size 40 h) (rw k at w)
+    subst
+    (λ (b : Bool). v ≡ hash (cond b poly14 poly22) (8 * cond b 2 3 - 2) (q % 2 ∷ q / 2 % 2 ∷ bits_of (part_n size mode a)))
+    (sym (ne_eqb size 40 h)) (rw k at w)
 
 pub second_is : (size mode e : ℕ) (a : List ℕ) (v : ℕ) → e ≡ 2 * frame_size size mode - conceal size mode
     → v ≡ hash 107243 16 (bits_of (take (length a - e) (drop e a))) → v ≡ second_hash size mode a

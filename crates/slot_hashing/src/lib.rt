@@ -2,6 +2,7 @@
 // once in four.
 // Inner: `slot_ordering` stands over it. It asks for a size and a mode in range and for a frame's semi-octets of their number.
 #![tactic(auto)]
+
 ghost use Rattle.std.specs.Prelude.{◌≡◌, ◌+◌, ◌*◌, ◌/◌, ◌%◌, ◌^◌, ◌<◌, length};
 ghost use Rattle.slot_laws.specs.Sizes.{InRange, frame_size};
 ghost use Rattle.slot_laws.specs.Hash.{pushed, hash, bits_of};
