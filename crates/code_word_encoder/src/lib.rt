@@ -3,6 +3,7 @@
 // One code for every mode.
 // Inner: `code_word` stands over it. It asks for a mode in range, and for data that are semi-octets behind room for the check.
 #![tactic(auto)]
+
 ghost use Rattle.std.specs.Prelude.{◌≡◌, ◌-◌, ◌≤◌, ◌<◌, length, drop};
 ghost use Rattle.code_word_laws.specs.Word.{SemiOctets, distance};
 ghost use Rattle.code_word_laws.specs.Register.{feedback, fed, register, with_checks};

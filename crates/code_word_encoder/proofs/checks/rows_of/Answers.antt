@@ -7,26 +7,19 @@ use Rattle.code_word_laws.specs.Polynomial.{scaled, added, multiplied, rooted}
 use Rattle.code_word_laws.specs.Register.{gathered, row, rows_from, feedback, register}
 use Rattle.code_word_laws.specs.Checks.{alone}
 use Rattle.code_word_laws.proofs.Checks.{register_rows, rows-register}
-use Rattle.code_word_encoder.proofs.checks.rows_of.Statement.{statement}
-use Rattle.code_word_encoder.proofs.checks.rows_of.Tie as tie
+use Rattle.code_word_encoder.proofs.checks.rows_of.Goals as goal
 
-returns : tie.Need-returns
+pub returns-in-2 : goal.returns-in-2
 unfolding register_rows tab alone register feedback rows_from row gathered rooted multiplied scaled added product reduced lowered expanded
     power sum
-returns c = let e : c.before.args.mode ≡ 2 = omega arith in rw e (sym (rows-register 2 (omega arith)))
+returns-in-2 c = let e : c.args.mode ≡ 2 = omega arith in rw e (sym (rows-register 2 (omega arith)))
 
-returns-2 : tie.Need-returns-2
+pub returns-in-3 : goal.returns-in-3
 unfolding register_rows tab alone register feedback rows_from row gathered rooted multiplied scaled added product reduced lowered expanded
     power sum
-returns-2 c = let e : c.before.args.mode ≡ 3 = omega arith in rw e (sym (rows-register 4 (omega arith)))
+returns-in-3 c = let e : c.args.mode ≡ 3 = omega arith in rw e (sym (rows-register 4 (omega arith)))
 
-returns-3 : tie.Need-returns-3
+pub returns-in_default : goal.returns-in_default
 unfolding register_rows tab alone register feedback rows_from row gathered rooted multiplied scaled added product reduced lowered expanded
     power sum
-returns-3 c = let e : c.before.args.mode ≡ 4 = omega arith in rw e (sym (rows-register 6 (omega arith)))
-
-pub rows-of-spec : {M : Type 1} → statement M
-rows-of-spec =
-    tie.close
-    (tie.spec
-    returns returns-2 returns-3)
+returns-in_default c = let e : c.args.mode ≡ 4 = omega arith in rw e (sym (rows-register 6 (omega arith)))

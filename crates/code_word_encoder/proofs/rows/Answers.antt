@@ -4,23 +4,16 @@ use native.Mathlib.Omega.{arith}
 use Rattle.gf16.specs.Field.{sum, expanded, lowered, reduced, product, power}
 use Rattle.code_word_laws.specs.Polynomial.{scaled, added, multiplied, rooted}
 use Rattle.code_word_laws.specs.Register.{gathered, row, rows_from, feedback}
-use Rattle.code_word_encoder.proofs.rows.Statement.{statement}
-use Rattle.code_word_encoder.proofs.rows.Tie as tie
+use Rattle.code_word_encoder.proofs.rows.Goals as goal
 
-returns : tie.Need-returns
+pub returns-in-2 : goal.returns-in-2
 unfolding feedback rows_from row gathered rooted multiplied scaled added product reduced lowered expanded power sum
-returns c = let e : c.before.args.mode ≡ 2 = omega arith in rw e refl
+returns-in-2 c = let e : c.args.mode ≡ 2 = omega arith in rw e refl
 
-returns-2 : tie.Need-returns-2
+pub returns-in-3 : goal.returns-in-3
 unfolding feedback rows_from row gathered rooted multiplied scaled added product reduced lowered expanded power sum
-returns-2 c = let e : c.before.args.mode ≡ 3 = omega arith in rw e refl
+returns-in-3 c = let e : c.args.mode ≡ 3 = omega arith in rw e refl
 
-returns-3 : tie.Need-returns-3
+pub returns-in_default : goal.returns-in_default
 unfolding feedback rows_from row gathered rooted multiplied scaled added product reduced lowered expanded power sum
-returns-3 c = let e : c.before.args.mode ≡ 4 = omega arith in rw e refl
-
-pub rows-spec : {M : Type 1} → statement M
-rows-spec =
-    tie.close
-    (tie.spec
-    returns returns-2 returns-3)
+returns-in_default c = let e : c.args.mode ≡ 4 = omega arith in rw e refl
