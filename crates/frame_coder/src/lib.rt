@@ -3,6 +3,7 @@
 // Inner: `frame_tns`, `frame_pair` and those over them stand over it, `writer_stream` over `entry`. It asks for a frame of 20 to 400 bytes,
 // for a row that rises from 0 to 1,024, and for a cursor that it gave itself (`Sound`).
 #![tactic(auto)]
+
 ghost use Rattle.std.specs.Prelude.{◌≡◌, ◌+◌, ◌*◌, ◌<◌};
 ghost use Rattle.frame_settings.specs.Settings.{Sized};
 ghost use Rattle.frame_coder.specs.Symbol.{start_of, largest, refill_of, symbol_of, symbol_given};

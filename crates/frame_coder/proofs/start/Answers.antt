@@ -1,0 +1,10 @@
+-- `frame_coder::start` meets its contract. The three bytes are read; the bounds follow. Assumes nothing.
+use native.Mathlib.Omega.{arith}
+use Rattle.frame_coder.proofs.start.Goals as goal
+
+pub returns : goal.returns
+returns c = let l = c.requires.least in
+    record {
+      value = rw (c.wide.ensures.value, c.wide-2.ensures.value, c.wide-3.ensures.value);
+      sound = record { low = omega arith; wide = omega arith; range = omega arith; at = omega arith; end = omega arith };
+    }
