@@ -3,6 +3,7 @@
 // Inner: `code_word_locator`, `code_word_corrector` and `code_word` stand over it. It asks for the table that `table` gives, for t from 1
 // to 3 and for semi-octets.
 #![tactic(auto)]
+
 ghost use Rattle.std.specs.Prelude.{◌≡◌, ◌+◌, ◌%◌, ◌^◌, ◌≤◌, ◌<◌, length};
 ghost use Rattle.laws.specs.Decides.{Decides};
 ghost use Rattle.gf16.specs.Field.{product};

@@ -4,15 +4,8 @@ use Rattle.gf16.proofs.Products.{looked}
 use Rattle.code_word_laws.specs.Word.{ones}
 use Rattle.code_word_laws.specs.Corrector.{both_of}
 use Rattle.code_word_syndromes.proofs.Tabled.{entries, quick, table-of-entries}
-use Rattle.code_word_syndromes.proofs.table.Statement.{statement}
-use Rattle.code_word_syndromes.proofs.table.Tie as tie
+use Rattle.code_word_syndromes.proofs.table.Goals as goal
 
-returns : tie.Need-returns
+pub returns : goal.returns
 unfolding entries tab quick looked both_of ones
 returns c = table-of-entries
-
-pub table-spec : {M : Type 1} → statement M
-table-spec =
-    tie.close
-    (tie.spec
-    returns)

@@ -1,0 +1,15 @@
+-- `code_word_syndromes::both_counts` meets its contract. Assumes nothing.
+use mathlib.Core.Path.{ap, ◌∙◌}
+use Prim.Native.Nat.{ℕ, ◌*◌, ◌%◌}
+use native.Mathlib.Omega.{arith}
+use lib.ListN.{get_or}
+use Rattle.code_word_laws.proofs.Changes.{both-few}
+use Rattle.code_word_syndromes.proofs.both_counts.Goals as goal
+
+pub returns : goal.returns
+returns c = let d = c.args.v % 16 in
+    let e = ap (λ (i : ℕ). get_or c.args.t.now (2 * i) 0) c.wide-at.ensures.value ∙ c.requires.counts d (omega arith) in
+    record {
+      value = e;
+      upper_bound = rw e (both-few d);
+    }
