@@ -2,6 +2,7 @@
 // `slot_sizes` and `frame_settings`.
 // Inner: `silberlaus` stands over it. It asks nothing.
 #![tactic(auto)]
+
 ghost use Rattle.std.specs.Prelude.{◌≡◌};
 ghost use Rattle.slot_laws.specs.Sizes.{IsFrameSize};
 ghost use Rattle.frame_settings.specs.Settings.{line_count};

@@ -85,7 +85,8 @@ hash-next-four p n s i r v h l e f =
     f ∙ hash_at p n s j (j + 1) _ (omega arith) (omega arith) x1
 
 -- the rest of a row, as a part of it
-pub hash-rest : (p n : ℕ) (s : List ℕ) (i v : ℕ) → v ≡ hash p n (bits_of (take (length s - i) (drop i s))) → v ≡ hash p n (bits_of (drop i s))
+pub hash-rest : (p n : ℕ) (s : List ℕ) (i v : ℕ) → v ≡ hash p n (bits_of (take (length s - i) (drop i s)))
+    → v ≡ hash p n (bits_of (drop i s))
 hash-rest p n s i v f =
     let d = length-drop i s in
     let l : length (drop i s) ≤ length s - i = omega arith in

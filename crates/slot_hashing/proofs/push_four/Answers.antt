@@ -42,5 +42,7 @@ bounds-steps-t c =
     place
 
 pub returns : goal.returns
-returns c = let a = c.args in
-    let u = four-step a.p a.n a.a a.b a.c a.d a.r _ _ a.steps.now c.requires.stepped c.requires.r_bound refl refl in record { value = u.0; upper_bound = u.1 }
+returns c =
+    let a = c.args in
+    let u = four-step a.p a.n a.a a.b a.c a.d a.r _ _ a.steps.now c.requires.stepped c.requires.r_bound refl refl in
+    record { value = u.0; upper_bound = u.1 }
