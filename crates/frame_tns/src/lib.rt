@@ -2,6 +2,7 @@
 // Inner: `frame_answers` cites it, `frame_arithmetic` stands over it. It asks for a frame of 20 to 400 bytes and a setting's duration, for
 // the TNS tables, for room of zeros and for a cursor of `frame_coder`.
 #![tactic(auto)]
+
 ghost use Rattle.std.specs.Prelude.{◌≡◌, ◌≤◌, ◌<◌, length};
 ghost use Rattle.frame_tns.specs.Tns.{unused, coefficients_of, coefficients_given, filter_of, filter_given};
 ghost use Rattle.frame_coder.specs.Sound.{Ready};
