@@ -4,6 +4,7 @@
 // Inner: `frame_pairs` stands over it, `writer_pair` over `row_of` and `next_context`. It asks for a frame of 20 to 400 bytes, for the
 // tables of the spectrum, and for a cursor of `frame_coder`.
 #![tactic(auto)]
+
 ghost use Rattle.std.specs.Prelude.{◌≡◌, ◌+◌, ◌*◌, ◌^◌, ◌≤◌, ◌<◌, ◌/◌, ◌%◌, length};
 ghost use Rattle.coder_tables.specs.Layout.{by_level};
 ghost use Rattle.frame_settings.specs.Settings.{Sized};
