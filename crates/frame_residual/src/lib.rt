@@ -4,6 +4,7 @@
 // frame of 20 to 400 bytes, for cursors inside it, for lines in range, and for a buffer of at most 400 residual bits, no longer than the
 // lines.
 #![tactic(auto)]
+
 ghost use Rattle.std.specs.Prelude.{◌≡◌, ◌+◌, ◌*◌, ◌≤◌, ◌<◌, length, replicate, nat_abs};
 ghost use Rattle.frame_residual.specs.Residual.{log2_of, left_of, left_given, residual_of, residual_given, away};
 ghost use Rattle.frame_residual.specs.Residual.{born_of, late_of, late_given};
