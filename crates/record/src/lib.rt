@@ -3,6 +3,7 @@
 // `record_answers`. Each public function is total and equals its definition in specs/Answers.antt, the lent buffer too; specs/Layout.antt
 // of `record_bytes` says which bytes a list of entries is. Nothing is written before the last test.
 #![tactic(auto)]
+
 ghost use Rattle.std.specs.Prelude.{◌≡◌};
 ghost use Rattle.record_answers.specs.Answers.{made_number, counted_answer, found_answer, added_answer};
 ghost use Rattle.record_forms.specs.declared.Form.TheVariants.{Two};
