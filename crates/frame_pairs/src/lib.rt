@@ -2,6 +2,7 @@
 // Inner: `frame_finish` cites it, `frame_spectral` stands over it, `writer_pairs` over `base_of`. It asks as `frame_pair` does, for at most
 // 200 pairs, and for 400 lines and 200 levels.
 #![tactic(auto)]
+
 ghost use Rattle.std.specs.Prelude.{◌≡◌, ◌+◌, ◌*◌, ◌≤◌, ◌<◌, length};
 ghost use Rattle.coder_tables.specs.Layout.{by_level};
 ghost use Rattle.frame_pairs.specs.Pairs.{base_of, line_of, store_of, pairs_of, pairs_given};
