@@ -2,6 +2,7 @@
 // near enough. Inner: `code_word_corrector` stands over it. It asks for the table of `code_word_syndromes`, for t from 1 to 3 and for words
 // of at most 15 semi-octets.
 #![tactic(auto)]
+
 ghost use Rattle.std.specs.Prelude.{◌+◌, ◌≤◌, length};
 ghost use Rattle.laws.specs.Decides.{Decides};
 ghost use Rattle.code_word_laws.specs.Corrector.{WordFor, Syndromes, Acceptable, Tried};

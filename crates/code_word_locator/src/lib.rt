@@ -2,6 +2,7 @@
 // that these sums are transformed back to. Inner: `code_word_corrector` stands over it. It asks for the table that `code_word_syndromes`
 // gives, for t from 1 to 3 and for semi-octets.
 #![tactic(auto)]
+
 ghost use Rattle.std.specs.Prelude.{◌≡◌, [], ◌∷◌, ◌<◌};
 ghost use Rattle.code_word_laws.specs.Word.{SemiOctets};
 ghost use Rattle.code_word_laws.specs.Corrector.{Table, TableFor, IsLocator, minor_two, triple};
