@@ -3,6 +3,7 @@
 // Inner: `frame_spectral` stands over it. It asks for a frame of 20 to 400 bytes, for the bits left inside it, for 400 lines and 200 levels
 // that leave room for a late bit, and for two buffers of one length, at most 400.
 #![tactic(auto)]
+
 ghost use Rattle.std.specs.Prelude.{◌≡◌, ◌≤◌, ◌<◌, length, take};
 ghost use Rattle.frame_residual.specs.Residual.{residual_given};
 ghost use Rattle.frame_residual.specs.Sound.{LeftIn};
