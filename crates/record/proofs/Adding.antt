@@ -13,7 +13,17 @@ use borrow.Author.Tests.{leb-true, le-leb, lt-leb, ltb-true, ltb-false, eqb-true
 use Rattle.record_forms.specs.declared.Form.{Form}
 use Rattle.record_forms.specs.Forms.{trailer_size, end_size}
 use Rattle.record_bytes.specs.declared.Walked.TheVariants as walked
-use Rattle.record_bytes.specs.Layout.{RecordEntry, trailer, entry_bytes, entries_bytes, end_bytes, record_bytes, EntryInRange, IsRecord, most}
+use Rattle.record_bytes.specs.Layout.{
+  RecordEntry,
+  trailer,
+  entry_bytes,
+  entries_bytes,
+  end_bytes,
+  record_bytes,
+  EntryInRange,
+  IsRecord,
+  most,
+}
 use Rattle.record_forms.specs.Ranges.{in_range}
 use Rattle.record_bytes.specs.Reading.{read_record}
 use Rattle.record_bytes.specs.Steps.{walk_of, put}

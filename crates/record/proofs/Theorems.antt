@@ -67,7 +67,8 @@ frame-last : (es : List RecordEntry) (e : RecordEntry) → frame_at (es ++ (e �
 frame-last [] e = refl
 frame-last (x ∷ es) e = frame-last es e
 
-frame-older : (es : List RecordEntry) (e : RecordEntry) (place : ℕ) → place < length es → frame_at (es ++ (e ∷ [])) place ≡ frame_at es place
+frame-older : (es : List RecordEntry) (e : RecordEntry) (place : ℕ) → place < length es
+    → frame_at (es ++ (e ∷ [])) place ≡ frame_at es place
 frame-older [] e place h = absurd (omega arith)
 frame-older (x ∷ es) e zero h = refl
 frame-older (x ∷ es) e (suc place) h = frame-older es e place (omega arith)

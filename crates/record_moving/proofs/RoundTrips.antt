@@ -16,7 +16,6 @@ use Rattle.record_forms.specs.declared.Form.TheVariants as form
 use Rattle.record_forms.specs.Forms.{trailer_size}
 use Rattle.record_bytes.specs.declared.Located.{Located}
 use Rattle.record_bytes.specs.Layout.{RecordEntry, record_bytes, AllInRange, held, held_all, most}
-use Rattle.record_forms.specs.Ranges.{unknown}
 use Rattle.record_bytes.specs.Reading.{read_record}
 use Rattle.record_bytes.specs.Located.{locate}
 use Rattle.record_answers.specs.Answers.{Answer, accepted, refused}

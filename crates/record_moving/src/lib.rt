@@ -3,6 +3,7 @@
 // `record_answers`. Both public functions are total and equal their definition in specs/Moving.antt, the lent buffer too. Nothing is
 // written before the last test.
 #![tactic(auto)]
+
 ghost use Rattle.std.specs.Prelude.{◌≡◌, ◌++◌, ◌+◌, ◌*◌, ◌≤◌, length, take, drop};
 ghost use Rattle.record_forms.specs.Forms.{trailer_size, end_size};
 ghost use Rattle.record_forms.specs.declared.Form.TheVariants.{One, Two};
