@@ -3,6 +3,7 @@
 // Inner: `code_word` stands over it. It asks for the table of `code_word_syndromes`, for t from 1 to 3 and for words of at most 15
 // semi-octets.
 #![tactic(auto)]
+
 ghost use Rattle.std.specs.Prelude.{cond, ◌≡◌, ◌+◌, ◌/◌, ◌%◌, ◌≤◌, ltb, length};
 ghost use Rattle.code_word_laws.specs.Word.{SemiOctets};
 ghost use Rattle.code_word_laws.specs.Correct.{WordCorrected, EachCorrected};
