@@ -1,6 +1,7 @@
 // The listing of a record of either form, built from the end of a buffer back, since that is how the entries are read: one more step an
 // entry. It stands over `record_bytes`. `list` is total and equals its definition in specs/Listing.antt, the lent buffer too.
 #![tactic(auto)]
+
 ghost use Rattle.std.specs.Prelude.{◌≡◌, ◌+◌, ◌≤◌, ◌<◌, length};
 ghost use Rattle.record_bytes.specs.Steps.{Whole, Placed};
 ghost use Rattle.record_listing.specs.Listing.{leading, field, line, lines_in, known_in};
