@@ -3,6 +3,7 @@
 // Inner: `frame_arithmetic` stands over it. It asks for a known setting, a frame of 20 to 400 bytes, buffers of its line count, and cursors
 // of the steps before.
 #![tactic(auto)]
+
 ghost use Rattle.std.specs.Prelude.{◌≡◌, ◌≤◌};
 ghost use Rattle.frame_settings.specs.Settings.{Known};
 ghost use Rattle.frame_spectral.specs.Spectral.{spectral_from, spectral_given, KeptOnCause};
