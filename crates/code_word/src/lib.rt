@@ -6,6 +6,7 @@
 // What is out of range gets an answer of its own. specs/ of `code_word_laws` says what is right, and its proofs/ has the distance argument,
 // once for d.
 #![tactic(auto)]
+
 ghost use Rattle.std.specs.Prelude.{◌≡◌};
 ghost use Rattle.code_word_laws.specs.Checks.{IsCheckRows, with_data};
 ghost use Rattle.code_word_answers.specs.Answers.{made_number, corrected_number, corrected_count, corrected_bits, answers_number};

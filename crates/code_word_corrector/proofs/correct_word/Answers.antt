@@ -5,7 +5,13 @@ use Prim.Native.Nat.{ℕ, ◌+◌, ◌/◌, ◌%◌}
 use native.Mathlib.Omega.{arith}
 use Rattle.code_word_laws.specs.Corrector.{taken_off}
 use Rattle.code_word_laws.specs.Word.{apart, bits_apart}
-use Rattle.code_word_laws.proofs.Correcting.{taken-off-length, taken-off-semi-octets, taken-off-clean, correct-word-accepted, correct-word-refused}
+use Rattle.code_word_laws.proofs.Correcting.{
+  taken-off-length,
+  taken-off-semi-octets,
+  taken-off-clean,
+  correct-word-accepted,
+  correct-word-refused,
+}
 use Rattle.code_word_errors.proofs.Single.{bits-of, count_of}
 use Rattle.code_word_corrector.proofs.correct_word.Goals as goal
 
