@@ -3,6 +3,7 @@
 // Inner: `frame` stands over it. It asks for a known setting, a frame of 20 to 400 bytes, its side information as read, and buffers of its
 // line count.
 #![tactic(auto)]
+
 ghost use Rattle.frame_settings.specs.Settings.{Known, Sized, order_of, last_cause};
 ghost use Rattle.frame_answers.specs.Answers.{told};
 ghost use Rattle.frame_arithmetic.specs.Answers.{judged_read, arithmetic_from, Answers};
