@@ -132,7 +132,8 @@ module _ {size mode i lo hi lo' hi' m v p : ℕ} {f : ℕ → ℕ} {row old new 
   at_in : at < length new
   at_in = let b = place-lt size i m from inside in_word in omega (arith, s.long, word.range.size_to, word.places_long)
 
-  elsewhere : (k : ℕ) → k < word_length size i → (k ≡ m → ⊥) → get_or (set new at v) (place_of size i k) 0 ≡ get_or new (place_of size i k) 0
+  elsewhere : (k : ℕ) → k < word_length size i → (k ≡ m → ⊥)
+      → get_or (set new at v) (place_of size i k) 0 ≡ get_or new (place_of size i k) 0
   elsewhere k a d =
       get_or-set_other new at (place_of size i k) v 0
       (λ x. d (sym (place-number size i k from inside a) ∙ ap (number_in size) x ∙ place-number size i m from inside in_word))
@@ -289,7 +290,8 @@ module _ {size mode i at n e : ℕ} {message : List ℕ} (part : WordPart size m
 -- all words at their places, packed, are the slot
 pub written : {size mode n : ℕ} {message places slot : List ℕ} (lent : List ℕ) → InRange size mode → Data size mode message
     → length lent ≡ size
-    → Placed size (signature mode) (code_word size mode message) n places → words size ≤ n → slot ≡ pack (λ p. get_or places p 0) (length lent)
+    → Placed size (signature mode) (code_word size mode message) n places → words size ≤ n
+    → slot ≡ pack (λ p. get_or places p 0) (length lent)
     → slot ≡ slot_with size mode message
 unfolding slot_with
 written {size} {mode} {n} {message} {places} {slot} lent r d l p h e =

@@ -2,6 +2,7 @@
 // Inner: the crates of `slot` that order, receive and write stand over it. It asks for a size and a mode in range and for buffers of their
 // length.
 #![tactic(auto)]
+
 ghost use Rattle.std.specs.Prelude.{◌≡◌, ℕ, ◌+◌, ◌*◌, ◌≤◌, ◌<◌, length, get_or, take, drop};
 ghost use Rattle.laws.specs.Tab.{Below};
 ghost use Rattle.code_word_laws.specs.Checks.{summed};
