@@ -16,7 +16,7 @@ example = record { frame = replicate 20 0; request = 3; count = 0; bits = 0 }
 -- `records 1` and `0 20 3 0`, each with its newline
 pub example-listing : (f : Form) → listing (record_bytes f (example ∷ []))
     ≡ 114 ∷ 101 ∷ 99 ∷ 111 ∷ 114 ∷ 100 ∷ 115 ∷ 32 ∷ 49 ∷ 10 ∷ 48 ∷ 32 ∷ 50 ∷ 48 ∷ 32 ∷ 51 ∷ 32 ∷ 48 ∷ 10 ∷ []
-unfolding record_bytes entries_bytes end_bytes entry_bytes trailer trailer_bytes big listing read_record may_be read_back entry_before entry_ending
-    may_end bits_at number in_range bits_in_range lines line field decimal leading
+unfolding record_bytes entries_bytes end_bytes entry_bytes trailer trailer_bytes big listing read_record may_be read_back entry_before
+    entry_ending may_end bits_at number in_range bits_in_range lines line field decimal leading
 example-listing form.One = refl
 example-listing form.Two = refl

@@ -2,6 +2,7 @@
 // It stands over `record`.
 // Inner: `silberlaus` stands over it. It asks nothing.
 #![tactic(auto)]
+
 ghost use Rattle.std.specs.Prelude.{◌≡◌};
 ghost use Rattle.record_forms.specs.declared.Form.TheVariants.{Two};
 ghost use Rattle.record_bytes.specs.Located.{nowhere};
