@@ -2,6 +2,7 @@
 // semi-octets are those of its data. Inner: `slot_gathering` and `slot_repair` stand over it. It asks for a size and a mode in range and
 // for rooms of their length.
 #![tactic(auto)]
+
 ghost use Rattle.std.specs.Prelude.{◌≡◌, true, ◌-◌, ◌*◌, ◌≤◌, length};
 ghost use Rattle.laws.specs.Tab.{Below};
 ghost use Rattle.code_word_laws.specs.Word.{distance};
@@ -93,7 +94,18 @@ fn read_clean_word(
 }
 
 // Whether every word as received is the code word over its data: then these stand in order, and there is nothing to correct.
-pub fn read_clean(
+pub fn read_clean(size: usize, mode: usize, places: &[u8], message: &mut [u8]) -> bool
+    requires semi_octets_of { SemiOctetsOf size mode places.now }
+    requires fact { Data size mode message.old }
+    ensures fact_2 { Data size mode message.new }
+    ensures all_clean { result ≡ true → AllClean size mode places.now message.new (words size) }
+{
+    let rows = code_word::check_rows(mode as u32);
+    read_clean_with(size, mode, places, &rows, message)
+}
+
+// The same with the rows of the check semi-octets made before, which every word of the slot shares.
+pub fn read_clean_with(
     size: usize,
     mode: usize,
     places: &[u8],

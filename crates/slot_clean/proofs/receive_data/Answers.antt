@@ -1,0 +1,61 @@
+-- `slot_clean::receive_data` meets its contract. The invariant of its loop stands at the head. Assumes nothing.
+use mathlib.Core.Path.{◌≡◌, refl, ap, ◌∙◌}
+use Prim.Native.Nat.{◌<◌, ◌-◌, ◌+◌}
+use native.Mathlib.Omega.{arith}
+use lib.ListN.{length}
+use Rattle.laws.proofs.Fill.{filled-first, filled_next}
+use Rattle.code_word_laws.specs.Checks.{summed}
+use Rattle.slot_laws.specs.Sizes.{word_length, data_length}
+use Rattle.code_word_laws.proofs.Checks.{summed-none, summed-next}
+use Rattle.slot_interleaving.proofs.PlaceSteps.{data-in, has-place, in_row}
+use Rattle.slot_clean.proofs.CleanSteps.{data-at, data-last}
+use Rattle.slot_clean.proofs.receive_data.Invariants.{datum}
+use Rattle.slot_clean.proofs.receive_data.Goals as goal
+
+pub loop-k-init : goal.loop-k-init
+loop-k-init c =
+    let a = c.args in
+    (omega arith, filled-first (datum c.args.size c.args.mode c.args.places.now c.args.i) (length a.w.now) a.w.now refl, summed-none a.rows.now (datum c.args.size c.args.mode c.args.places.now c.args.i))
+
+pub place-requires : goal.place-requires
+place-requires c =
+    let in-data : let a = c.args in c.loop-k.k < data_length a.size a.mode a.i =
+    omega (arith, c.requires.w_len, c.loop-k-test.true, c.loop-k.invariant.1.long) in
+    let in_word : let a = c.args in c.distance-checks.result - 1 + c.loop-k.k < word_length a.size a.i =
+    data-in c.requires.at_word c.distance-checks.ensures in-data in
+    has-place c.requires.at_word c.word_count-count.ensures.value in_word
+
+pub bounds-row-checks : goal.bounds-row-checks
+bounds-row-checks c =
+    let in-data : let a = c.args in c.loop-k.k < data_length a.size a.mode a.i =
+    omega (arith, c.requires.w_len, c.loop-k-test.true, c.loop-k.invariant.1.long) in
+    let in_word : let a = c.args in c.distance-checks.result - 1 + c.loop-k.k < word_length a.size a.i =
+    data-in c.requires.at_word c.distance-checks.ensures in-data in
+    in_row c.requires.at_word in_word
+
+pub loop-k-preserved : goal.loop-k-preserved
+loop-k-preserved c =
+    let in-data : let a = c.args in c.loop-k.k < data_length a.size a.mode a.i =
+    omega (arith, c.requires.w_len, c.loop-k-test.true, c.loop-k.invariant.1.long) in
+    let x = data-at c.requires.at_word c.distance-checks.ensures in-data c.place.ensures.value in (
+      omega arith,
+      filled_next (datum c.args.size c.args.mode c.args.places.now c.args.i) (length c.args.w.now) c.loop-k.k c.loop-k.w _ c.loop-k.invariant.1
+          (omega (arith, c.loop-k-test.true, c.loop-k.invariant.1.long)) x,
+      summed-next c.args.rows.now (datum c.args.size c.args.mode c.args.places.now c.args.i) c.loop-k.k _ c.loop-k.r c.with_data-r.result x c.loop-k.invariant.2
+          c.with_data-r.ensures,
+    )
+
+pub returns : goal.returns
+returns c = let h = c.loop-k in
+    let a = c.args in
+    let e : h.k ≡ data_length a.size a.mode a.i = omega (
+      arith,
+      c.requires.w_len,
+      h.invariant.0,
+      h.invariant.1.long,
+      c.loop-k-test.false,
+    ) in
+    record {
+      w_after = data-last c.requires.at_word c.requires.w_len h.invariant.1 (omega (arith, c.requires.w_len));
+      checks_summed = h.invariant.2 ∙ ap (summed a.rows.now (datum c.args.size c.args.mode c.args.places.now c.args.i)) e;
+    }
