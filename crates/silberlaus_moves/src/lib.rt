@@ -2,6 +2,7 @@
 // `record_moving` and `silberlaus_records`.
 // Inner: `silberlaus` stands over it. It asks nothing.
 #![tactic(auto)]
+
 ghost use Rattle.std.specs.Prelude.{◌≡◌};
 ghost use Rattle.record_forms.specs.declared.Form.TheVariants.{One, Two};
 ghost use Rattle.record_answers.specs.Answers.{moved_answer};
