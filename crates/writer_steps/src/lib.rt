@@ -1,6 +1,7 @@
 // What the writer's steps hand each other, and in specs/ what they ask and promise of it beside the definitions of `writer_laws`. No code.
 // Inner: the crates of `writer` stand over it.
 #![tactic(auto)]
+
 use frame_coder::Coder;
 
 // The side stream: the number of bits written, and the last of them that fill no byte yet.
