@@ -84,7 +84,8 @@ pub taken-off-one : (t : ℕ) (old : List ℕ) (s k v r : ℕ) → 1 ≤ t → t
 unfolding sum
 taken-off-one t old s k v r from to short semi syndromes h l n row clear =
     found-is t old to short semi (changed-at old k v) 1 (ones v) (sym one) (sym (bits-apart-changed old k v h))
-    (near_by t old to short semi (changed-at old k v) (semi-octets-changed old k v h l semi) (length-set old k (sum (get_or old k 0) v)) roots
+    (near_by t old to short semi (changed-at old k v) (semi-octets-changed old k v h l semi)
+    (length-set old k (sum (get_or old k 0) v)) roots
     (omega (arith, one)))
   where
     one : apart old (changed-at old k v) ≡ 1

@@ -159,7 +159,8 @@ unique-values d xs ys e l s t p h =
     let semi = added-semi-octets xs ys s t in
     same xs ys e
     (all-zero (added xs ys) 0 (λ i. get_or (added xs ys) i 0) semi (λ i. ap (λ (x : ℕ). get_or (added xs ys) x 0) (zero-add i))
-    (vanish (support 0 (added xs ys)) 0 (λ i. get_or (added xs ys) i 0) (support-rising (added xs ys) 0 (omega (arith, added-length xs ys e)))
+    (vanish (support 0 (added xs ys)) 0 (λ i. get_or (added xs ys) i 0)
+    (support-rising (added xs ys) 0 (omega (arith, added-length xs ys e)))
     (λ j a b.
     sym (value-total (added xs ys) j semi)
     ∙ value-added xs ys (power 2 j)

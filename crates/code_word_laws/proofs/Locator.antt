@@ -113,8 +113,8 @@ pair_one s1 s2 s3 s4 = simp ring2
 pair-two : (s1 s2 s3 s4 : ℕ) → short (minor_two s2 s3 s3 s4) s2 (minor_two s1 s3 s2 s4) s3 (minor_two s1 s2 s2 s3) s4 ≡ 0
 pair-two s1 s2 s3 s4 = simp ring2
 
-pair-three : (s1 s2 s3 s4 s5 : ℕ) → short (minor_two s2 s3 s3 s4) s3 (minor_two s1 s3 s2 s4) s4 (minor_two s1 s2 s2 s3) s5 ≡ minor s1 s2 s3 s4
-    s5
+pair-three : (s1 s2 s3 s4 s5 : ℕ)
+    → short (minor_two s2 s3 s3 s4) s3 (minor_two s1 s3 s2 s4) s4 (minor_two s1 s2 s2 s3) s5 ≡ minor s1 s2 s3 s4 s5
 pair-three s1 s2 s3 s4 s5 = simp ring2
 
 -- where the 2 by 2 and the 3 by 3 leading minors are 0, so is the minor between them

@@ -1,6 +1,7 @@
 // The functions of `code_word` under C names, for the tests and the benchmark in tests/code_word: the enum answers as document 01's
 // numbers. It stands over `code_word`, and each contract is that of the function called, with the number in place of the enum.
 #![tactic(auto)]
+
 ghost use Rattle.code_word.specs.Make.{Makes};
 ghost use Rattle.code_word.specs.Correct.{Corrects, CorrectsEach};
 
