@@ -3,6 +3,7 @@
 // or 5 with the first cause in reading order; a refusal leaves both buffers as lent. Values lie in -32,767 to 32,767, symbols are at most
 // 18 + 7 x last line.
 #![tactic(auto)]
+
 ghost use Rattle.std.specs.Prelude.{length};
 ghost use Rattle.frame_settings.specs.Settings.{Known, Sized, order_of, last_cause, last_cause_of, setting_of};
 ghost use Rattle.frame.specs.Frame.{judged_of, judged_sized};
