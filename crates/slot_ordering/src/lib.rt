@@ -2,6 +2,7 @@
 // Inner: `slot_delivery`, `slot_protection` and `slot` stand over it. It asks for a size, a mode and a request in range and for buffers of
 // their length.
 #![tactic(auto)]
+
 ghost use Rattle.std.specs.Prelude.{◌≡◌, ◌+◌, ◌-◌, ◌*◌, ◌^◌, ◌≤◌, ◌<◌, length, drop};
 ghost use Rattle.slot_laws.specs.Sizes.{InRange, Settings, hash1, heading_size, data_size};
 ghost use Rattle.slot_laws.specs.Order.{unrolled, semis, heading, ordered, swapped, request_swapped, data_of, Data};

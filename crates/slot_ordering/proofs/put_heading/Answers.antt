@@ -1,0 +1,21 @@
+-- `slot_ordering::put_heading` meets its contract. Assumes nothing.
+use Rattle.slot_ordering.proofs.OrderSteps.{heading-is}
+use lib.Seq.{length-take-le}
+use native.Mathlib.Omega.{arith}
+use Prim.Native.Nat.{◌+◌, ◌*◌}
+use mathlib.Core.Path.{sym}
+use Rattle.slot_ordering.proofs.put_heading.Goals as goal
+
+pub slice_bounds-put_semis-end-2 : goal.slice_bounds-put_semis-end-2
+slice_bounds-put_semis-end-2 c =
+    let e = c.first_hash_size-e in
+    sym (length-take-le (2 * e.result) c.args.out.now (omega arith))
+
+pub returns : goal.returns
+returns c =
+    let a = c.args in
+    heading-is a.size a.mode a.request (2 * c.first_hash_size-e.result) a.a.now a.out.now
+    c.put_semis.new.out c.put_semis-2.new.out (c.first_hash.result + c.raised.result) _
+    (omega (arith, c.first_hash_size-e.ensures.value)) c.requires.heading_room.room
+    (omega (arith, c.first_hash.ensures.value, c.raised.ensures.value)) c.second_hash.ensures
+    c.put_semis.ensures c.put_semis-2.ensures
