@@ -8,145 +8,93 @@ use Rattle.record_bytes.specs.Layout.{end_bytes}
 use Rattle.record_bytes.specs.Steps.{Whole, put}
 use Rattle.record_answers.specs.Answers.{accepted}
 use Rattle.record_moving.specs.Moving.{moved_entries}
-use Rattle.record_bytes.proofs.Numbers.{Bytes}
 use Rattle.record_bytes.proofs.Inverse.{length-end}
 use Rattle.record_bytes.proofs.Walking.{whole-read, none_read}
 use Rattle.record_bytes.proofs.Putting.{length-put}
 use Rattle.record_moving.proofs.Carrying.{move-none, move-short, move-long, Sized, beside-frames, sized, move-made}
 use Rattle.record_moving.proofs.moved.Goals as goal
+use Rattle.record_moving.proofs.moved.Goals.{After-length_in-used}
 
 pub returns-in_default : goal.returns-in_default
-returns-in_default c = let a = c.args in
+returns-in_default c =
+    let a = c.args in
     let u = move-none a.from a.to a.bytes.now a.out.now
-    (none_read a.from a.bytes.now 0 (sym c.walk-walked.ensures ∙ c.in_default.is)) in record { result_value = u.0; out_after = u.1 }
+    (none_read a.from a.bytes.now 0 (sym c.walk-walked.ensures ∙ c.in_default.is)) in
+    record { result_value = u.0; out_after = u.1 }
 
 pub length_in-used-requires : goal.length_in-used-requires
 length_in-used-requires c =
-    let bytes : Bytes c.args.bytes.now =
-    λ i. omega (arith, c.type_inv.bytes i) in
-    let whole : Whole c.args.from c.args.bytes.now c.wide4.result =
     let a = c.args in
+    let whole : Whole a.from a.bytes.now c.wide4.result =
     subst (Whole a.from a.bytes.now) (sym c.wide4.ensures)
     (whole-read a.from a.bytes.now 0 c.in-Whole.n c.in-Whole.field-1 (sym c.walk-walked.ensures ∙ c.in-Whole.is)) in
+    let b = beside-frames a.from a.to a.bytes.now a.out.now c.wide4.result whole (λ i. omega (arith, c.type_inv.bytes i)) in
+    record { from_bound = b.0; used_bound = b.1; n_bound = b.2 }
+
+-- the bytes are a record
+whole : (c : goal.After-length_in-used) → Whole c.args.from c.args.bytes.now c.wide4.result
+whole c =
     let a = c.args in
-    let b = beside-frames a.from a.to a.bytes.now a.out.now c.wide4.result (whole) (bytes) in
-    record {
-      from_bound = b.0;
-      used_bound = b.1;
-      n_bound = b.2;
-    }
+    subst (Whole a.from a.bytes.now) (sym c.wide4.ensures)
+    (whole-read a.from a.bytes.now 0 c.in-Whole.n c.in-Whole.field-1 (sym c.walk-walked.ensures ∙ c.in-Whole.is))
+
+-- the length is that of the moved record
+long : (c : goal.After-length_in-used)
+    → Sized c.args.from c.args.to c.args.bytes.now c.args.out.now c.wide4.result (whole c) c.length_in-used.result
+long c =
+    let a = c.args in
+    sized a.from a.to a.bytes.now a.out.now c.wide4.result (whole c) (λ i. omega (arith, c.type_inv.bytes i))
+    c.length_in-used.result c.length_in-used.ensures
 
 pub returns-then-out-used : goal.returns-then-out-used
 returns-then-out-used c =
-    let whole : Whole c.args.from c.args.bytes.now c.wide4.result =
+    let k = (goal.at.returns-then-out-used c).After-length_in-used in
     let a = c.args in
-    subst (Whole a.from a.bytes.now) (sym c.wide4.ensures)
-    (whole-read a.from a.bytes.now 0 c.in-Whole.n c.in-Whole.field-1 (sym c.walk-walked.ensures ∙ c.in-Whole.is)) in
-    let bytes : Bytes c.args.bytes.now =
-    λ i. omega (arith, c.type_inv.bytes i) in
-    let long : let a = c.args in
-    Sized a.from a.to a.bytes.now a.out.now c.wide4.result (whole) c.length_in-used.result =
-    let a = c.args in
-    sized a.from a.to a.bytes.now a.out.now c.wide4.result (whole) (bytes)
-    c.length_in-used.result c.length_in-used.ensures in
-    let a = c.args in
-    let u = move-short a.from a.to a.bytes.now a.out.now c.wide4.result (whole)
-    (omega (arith, c.if-out-used.true, (long).long)) in record { result_value = u.0; out_after = u.1 }
+    let u = move-short a.from a.to a.bytes.now a.out.now c.wide4.result (whole k) (omega (arith, c.if-out-used.true, (long k).long)) in
+    record { result_value = u.0; out_after = u.1 }
 
 pub returns-then-used-gt65536 : goal.returns-then-used-gt65536
 returns-then-used-gt65536 c =
-    let whole : Whole c.args.from c.args.bytes.now c.wide4.result =
+    let k = (goal.at.returns-then-used-gt65536 c).After-length_in-used in
     let a = c.args in
-    subst (Whole a.from a.bytes.now) (sym c.wide4.ensures)
-    (whole-read a.from a.bytes.now 0 c.in-Whole.n c.in-Whole.field-1 (sym c.walk-walked.ensures ∙ c.in-Whole.is)) in
-    let bytes : Bytes c.args.bytes.now =
-    λ i. omega (arith, c.type_inv.bytes i) in
-    let long : let a = c.args in
-    Sized a.from a.to a.bytes.now a.out.now c.wide4.result (whole) c.length_in-used.result =
-    let a = c.args in
-    sized a.from a.to a.bytes.now a.out.now c.wide4.result (whole) (bytes)
-    c.length_in-used.result c.length_in-used.ensures in
-    let a = c.args in
-    let u = move-long a.from a.to a.bytes.now a.out.now c.wide4.result (whole)
-    (omega (arith, c.if-used-gt65536.true, (long).long)) in record { result_value = u.0; out_after = u.1 }
+    let u = move-long a.from a.to a.bytes.now a.out.now c.wide4.result (whole k) (omega (arith, c.if-used-gt65536.true, (long k).long)) in
+    record { result_value = u.0; out_after = u.1 }
 
 pub overflow_sub-at : goal.overflow_sub-at
-overflow_sub-at c =
-    let whole : Whole c.args.from c.args.bytes.now c.wide4.result =
-    let a = c.args in
-    subst (Whole a.from a.bytes.now) (sym c.wide4.ensures)
-    (whole-read a.from a.bytes.now 0 c.in-Whole.n c.in-Whole.field-1 (sym c.walk-walked.ensures ∙ c.in-Whole.is)) in
-    let bytes : Bytes c.args.bytes.now =
-    λ i. omega (arith, c.type_inv.bytes i) in
-    let long : let a = c.args in
-    Sized a.from a.to a.bytes.now a.out.now c.wide4.result (whole) c.length_in-used.result =
-    let a = c.args in
-    sized a.from a.to a.bytes.now a.out.now c.wide4.result (whole) (bytes)
-    c.length_in-used.result c.length_in-used.ensures in
-    omega (arith, c.end.ensures, (long).front)
+overflow_sub-at c = omega (arith, c.end.ensures, (long (goal.at.overflow_sub-at c).After-length_in-used).front)
 
 pub put_end-requires : goal.put_end-requires
 put_end-requires c =
-    let whole : Whole c.args.from c.args.bytes.now c.wide4.result =
-    let a = c.args in
-    subst (Whole a.from a.bytes.now) (sym c.wide4.ensures)
-    (whole-read a.from a.bytes.now 0 c.in-Whole.n c.in-Whole.field-1 (sym c.walk-walked.ensures ∙ c.in-Whole.is)) in
-    let bytes : Bytes c.args.bytes.now =
-    λ i. omega (arith, c.type_inv.bytes i) in
-    let long : let a = c.args in
-    Sized a.from a.to a.bytes.now a.out.now c.wide4.result (whole) c.length_in-used.result =
-    let a = c.args in
-    sized a.from a.to a.bytes.now a.out.now c.wide4.result (whole) (bytes)
-    c.length_in-used.result c.length_in-used.ensures in
-    omega (arith, c.end.ensures, (long).front, c.if-out-used.false)
+    omega (arith, c.end.ensures, (long (goal.at.put_end-requires c).After-length_in-used).front, c.if-out-used.false)
 
 pub put_entries-requires : goal.put_entries-requires
 put_entries-requires c =
-    let whole : Whole c.args.from c.args.bytes.now c.wide4.result =
+    let k = (goal.at.put_entries-requires c).After-length_in-used in
     let a = c.args in
-    subst (Whole a.from a.bytes.now) (sym c.wide4.ensures)
-    (whole-read a.from a.bytes.now 0 c.in-Whole.n c.in-Whole.field-1 (sym c.walk-walked.ensures ∙ c.in-Whole.is)) in
-    let bytes : Bytes c.args.bytes.now =
-    λ i. omega (arith, c.type_inv.bytes i) in
-    let long : let a = c.args in
-    Sized a.from a.to a.bytes.now a.out.now c.wide4.result (whole) c.length_in-used.result =
-    let a = c.args in
-    sized a.from a.to a.bytes.now a.out.now c.wide4.result (whole) (bytes)
-    c.length_in-used.result c.length_in-used.ensures in
-    let a = c.args in
-    let front = (long).front in
+    let front = (long k).front in
     let size = c.end.ensures in
     let room = c.if-out-used.false in
     let m = length-end a.to c.in-Whole.n in
-    let l : length c.put_end.new.out ≡ length a.out.now =
-    ap length c.put_end.ensures ∙ length-put a.out.now _ _ (omega arith) in record {
-      whole = subst (Whole a.from a.bytes.now) (c.wide4.ensures ∙ sym c.wide4-2.ensures) (whole);
+    let l : length c.put_end.new.out ≡ length a.out.now = ap length c.put_end.ensures ∙ length-put a.out.now _ _ (omega arith) in
+    record {
+      whole = subst (Whole a.from a.bytes.now) (c.wide4.ensures ∙ sym c.wide4-2.ensures) (whole k);
       end_value = omega arith;
       end_in_bounds = omega arith;
     }
 
 pub returns : goal.returns
 returns c =
-    let whole : Whole c.args.from c.args.bytes.now c.wide4.result =
-    let a = c.args in
-    subst (Whole a.from a.bytes.now) (sym c.wide4.ensures)
-    (whole-read a.from a.bytes.now 0 c.in-Whole.n c.in-Whole.field-1 (sym c.walk-walked.ensures ∙ c.in-Whole.is)) in
-    let bytes : Bytes c.args.bytes.now =
-    λ i. omega (arith, c.type_inv.bytes i) in
-    let long : let a = c.args in
-    Sized a.from a.to a.bytes.now a.out.now c.wide4.result (whole) c.length_in-used.result =
-    let a = c.args in
-    sized a.from a.to a.bytes.now a.out.now c.wide4.result (whole) (bytes)
-    c.length_in-used.result c.length_in-used.ensures in
+    let k = (goal.at.returns c).After-length_in-used in
     let a = c.args in
     let f = a.to in
     let at = c.length_in-used.result - c.end.result in
-    let z = long in
+    let z = long k in
     let n = c.wide4 in
     let size = c.end.ensures in
     let front = z.front in
-    let m = move-made a.from f a.bytes.now a.out.now n.result (whole) at
-    (omega (arith, c.if-out-used.false, z.long)) (omega (arith, c.if-used-gt65536.false, z.long)) (omega (arith, z.long)) in record {
+    let m = move-made a.from f a.bytes.now a.out.now n.result (whole k) at
+    (omega (arith, c.if-out-used.false, z.long)) (omega (arith, c.if-used-gt65536.false, z.long)) (omega (arith, z.long)) in
+    record {
       result_value = ap accepted z.long ∙ m.0;
       out_after = c.put_entries.ensures ∙ ap (λ (l : List ℕ). put l 0 (moved_entries a.from f a.bytes.now))
           (c.put_end.ensures ∙ ap (λ (i : ℕ). put a.out.now at (end_bytes f i)) (sym n.ensures)) ∙ m.1;
