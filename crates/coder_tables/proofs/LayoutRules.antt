@@ -45,7 +45,8 @@ in_turn (suc n) a b c d = get_or a 0 0 ∷ in_turn n b c d (drop 1 a)
 
 -- every fourth value is an entry of the same list
 tab-in-turn : (f : ℕ → ℕ) (n : ℕ) (a b c d : List ℕ) → ((k : ℕ) → f (4 * k) ≡ get_or a k 0) → ((k : ℕ) → f (suc (4 * k)) ≡ get_or b k 0)
-    → ((k : ℕ) → f (suc (suc (4 * k))) ≡ get_or c k 0) → ((k : ℕ) → f (suc (suc (suc (4 * k)))) ≡ get_or d k 0) → tab f n ≡ in_turn n a b c d
+    → ((k : ℕ) → f (suc (suc (4 * k))) ≡ get_or c k 0) → ((k : ℕ) → f (suc (suc (suc (4 * k)))) ≡ get_or d k 0)
+    → tab f n ≡ in_turn n a b c d
 unfolding tab in_turn
 tab-in-turn f zero a b c d p q r s = refl
 tab-in-turn f (suc n) a b c d p q r s =

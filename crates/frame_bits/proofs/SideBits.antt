@@ -87,7 +87,8 @@ back-bit s b (suc k) at m h l = go (ltb m 8) refl (back-bit s b k (at - 1) (m - 
         let j : m % 8 ≡ (m - 8) % 8 = omega arith in
         rw (high_bit (get_or s at 0) (back_of s (at - 1) k) m (b at) x, i, j) (r (omega arith) (omega arith))
 
-pub four-joined : (s : List ℕ) (at a b c d : ℕ) → a ≡ get_or s at 0 → b ≡ get_or s (at - 1) 0 → c ≡ get_or s (at - 2) 0 → d ≡ get_or s (at - 3) 0
+pub four-joined : (s : List ℕ) (at a b c d : ℕ) → a ≡ get_or s at 0 → b ≡ get_or s (at - 1) 0 → c ≡ get_or s (at - 2) 0
+    → d ≡ get_or s (at - 3) 0
     → a + 256 * (b + 256 * (c + 256 * d)) ≡ back_of s at 4
 unfolding back_of
 four-joined s at a b c d e f g h =

@@ -46,7 +46,8 @@ not_last {cum} {row} {last} r t low v h k p = go (eqb v last) refl
     go false e = let d : (v ≡ last → ⊥) = eqb-false v last e in omega arith
 
 -- the last symbol is the largest, or the largest of those before it is
-largest-next : {cum : List ℕ} {row last : ℕ} (t low v n : ℕ) → Row cum row last → t * get_or cum (row + v) 0 ≤ low → v ≤ suc n → suc n ≤ last
+largest-next : {cum : List ℕ} {row last : ℕ} (t low v n : ℕ) → Row cum row last → t * get_or cum (row + v) 0 ≤ low → v ≤ suc n
+    → suc n ≤ last
     → (v < suc n → low < t * get_or cum (row + (v + 1)) 0) → (v ≤ n → largest cum row t low n ≡ v) → (b : Bool) → eqb v (suc n) ≡ b
     → largest cum row t low (suc n) ≡ v
 unfolding largest

@@ -53,7 +53,8 @@ lates-stop s levels n k lines p left x h z i t =
     let u : late_of s (get_or lines k (pos 0)) p left ≡ stop = rw i at t in
     rw (e, ne_eqb (get_or levels (k / 2) 0) 0 z, u)
 
-pub lates-more : (s levels : List ℕ) (n k : ℕ) (lines : List ℤ) (p left : ℕ) (x v w : ℤ) (q m : ℕ) → k < n → (get_or levels (k / 2) 0 ≡ 0 → ⊥)
+pub lates-more : (s levels : List ℕ) (n k : ℕ) (lines : List ℤ) (p left : ℕ) (x v w : ℤ) (q m : ℕ) → k < n
+    → (get_or levels (k / 2) 0 ≡ 0 → ⊥)
     → x ≡ get_or lines k (pos 0) → w ≡ v → late_of s x p left ≡ line v q m
     → lates_of s levels (n - (k + 1)) (k + 1) (set lines k w) q m ≡ lates_of s levels (n - k) k lines p left
 unfolding lates_of

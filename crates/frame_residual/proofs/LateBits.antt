@@ -38,7 +38,8 @@ pub late-none : (s : List ℕ) (v : ℤ) (p left : ℕ) → left ≡ 0 → stop 
 unfolding late_of
 late-none s v p left e = rw e
 
-pub late-same : (s : List ℕ) (v w : ℤ) (p left : ℕ) → w ≡ v → (left ≡ 0 → ⊥) → bit_of s p ≡ 0 → line w (p + 1) (left - 1) ≡ late_of s v p left
+pub late-same : (s : List ℕ) (v w : ℤ) (p left : ℕ) → w ≡ v → (left ≡ 0 → ⊥) → bit_of s p ≡ 0
+    → line w (p + 1) (left - 1) ≡ late_of s v p left
 unfolding late_of
 late-same s v w p zero i h e = absurd (h refl)
 late-same s v w p (suc n) i h e = let q : suc n - 1 ≡ n = omega arith in rw (i, q, eq-eqb (bit_of s p) 0 e)

@@ -8,7 +8,8 @@ use Rattle.frame_settings.proofs.setting_of.Goals as goal
 
 pub returns-in_default : goal.returns-in_default
 returns-in_default c = let a = c.args in
-    let u = known-setting _ _ _ (rate-missing a.khz a.duration (rw c.in_default.is at c.rate_of-rate.ensures)) in record { value = u.0; known_setting = u.1 }
+    let u = known-setting _ _ _ (rate-missing a.khz a.duration (rw c.in_default.is at c.rate_of-rate.ensures)) in record
+    { value = u.0; known_setting = u.1 }
 
 pub known-requires : goal.known-requires
 known-requires c =
@@ -16,7 +17,7 @@ known-requires c =
     some (rate c.args.khz c.in-Rate.index c.in-Rate.bandwidth) ≡ rate_in rates c.args.khz =
     rw c.in-Rate.is at c.rate_of-rate.ensures in
     record {
-      le_khz = rate-bounds _ _ _ (found);
+      le_khz = rate-bounds _ _ _ found;
       le_duration = duration-bounds _ (sym c.is_duration.ensures ∙ c.if-is_duration.true);
     }
 
@@ -26,7 +27,7 @@ returns-then-is_duration c =
     some (rate c.args.khz c.in-Rate.index c.in-Rate.bandwidth) ≡ rate_in rates c.args.khz =
     rw c.in-Rate.is at c.rate_of-rate.ensures in
     let a = c.args in
-    let e = setting-found a.khz a.duration _ _ (found) (sym c.is_duration.ensures ∙ c.if-is_duration.true) in
+    let e = setting-found a.khz a.duration _ _ found (sym c.is_duration.ensures ∙ c.if-is_duration.true) in
     let u = known-setting _ _ _ (ap settled.Known c.known.ensures ∙ e) in record { value = u.0; known_setting = u.1 }
 
 pub returns : goal.returns
@@ -35,4 +36,5 @@ returns c =
     some (rate c.args.khz c.in-Rate.index c.in-Rate.bandwidth) ≡ rate_in rates c.args.khz =
     rw c.in-Rate.is at c.rate_of-rate.ensures in
     let a = c.args in
-    let u = known-setting _ _ _ (duration-missing a.khz a.duration _ _ (found) (sym c.is_duration.ensures ∙ c.if-is_duration.false)) in record { value = u.0; known_setting = u.1 }
+    let u = known-setting _ _ _ (duration-missing a.khz a.duration _ _ found (sym c.is_duration.ensures ∙ c.if-is_duration.false)) in
+    record { value = u.0; known_setting = u.1 }
