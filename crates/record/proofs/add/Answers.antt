@@ -4,6 +4,7 @@ use mathlib.Core.Bool.{true, false}
 use mathlib.Core.List.{List}
 use Prim.Native.Nat.{ℕ, ◌+◌, ◌-◌, ◌≤◌}
 use native.Mathlib.Omega.{arith}
+use borrow.Author.Rules.{rules}
 use lib.ListN.{length, take}
 use lib.Seq.{length-take-le}
 use Rattle.record_forms.specs.declared.Form.TheVariants as form
@@ -56,7 +57,7 @@ unfolding may_add
 may-whole c = sym c.may_add.ensures ∙ c.if-may_add.true
 
 bytes : (c : goal.In-Whole) → Bytes (lent c)
-bytes c i = omega (arith, c.slice_known-1.given i)
+bytes c i = search rules
 
 whole : (c : goal.In-Whole) → walk_of form.Two (read_record form.Two (take c.args.used (lent c))) 0
     ≡ walked.Whole c.in-Whole.n c.in-Whole.field-1

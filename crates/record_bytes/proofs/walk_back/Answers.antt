@@ -5,40 +5,39 @@ use mathlib.Core.Path.{◌≡◌, sym, ◌∙◌, refl}
 use native.Mathlib.Omega.{arith}
 use Rattle.record_bytes.specs.Reading.{may_be}
 use Rattle.record_bytes.proofs.Walking.{may-be-sized, walk-not, walk_start, turn, walk-stop, walk-whole, walk-over}
-use borrow.Author.Tests.{not-true, not-false}
 use Rattle.record_bytes.proofs.walk_back.Goals as goal
 
 pub returns-then-not-may_be : goal.returns-then-not-may_be
 returns-then-not-may_be c =
     let a = c.args in
-    sym (walk-not a.form a.bytes.now a.place (sym c.may_be.ensures ∙ not-true _ c.if-not-may_be.true-raw))
+    sym (walk-not a.form a.bytes.now a.place (sym c.may_be.ensures ∙ c.if-not-may_be.true))
 
 pub overflow_sub-end : goal.overflow_sub-end
 overflow_sub-end c =
     let may : may_be c.args.form c.args.bytes.now ≡ true =
-    sym c.may_be.ensures ∙ not-false _ c.if-not-may_be.false-raw in
+    sym c.may_be.ensures ∙ c.if-not-may_be.false in
     let a = c.args in
-    let k = may-be-sized a.form a.bytes.now (may) in
+    let k = may-be-sized a.form a.bytes.now may in
     omega (arith, c.end.ensures, k.0)
 
 pub number4-entries-requires : goal.number4-entries-requires
 number4-entries-requires c =
     let may : may_be c.args.form c.args.bytes.now ≡ true =
-    sym c.may_be.ensures ∙ not-false _ c.if-not-may_be.false-raw in
+    sym c.may_be.ensures ∙ c.if-not-may_be.false in
     let a = c.args in
-    let k = may-be-sized a.form a.bytes.now (may) in
+    let k = may-be-sized a.form a.bytes.now may in
     omega (arith, c.end.ensures, k.0)
 
 pub loop-left-init : goal.loop-left-init
 loop-left-init c =
     let may : may_be c.args.form c.args.bytes.now ≡ true =
-    sym c.may_be.ensures ∙ not-false _ c.if-not-may_be.false-raw in
+    sym c.may_be.ensures ∙ c.if-not-may_be.false in
     let a = c.args in
-    let k = may-be-sized a.form a.bytes.now (may) in
+    let k = may-be-sized a.form a.bytes.now may in
     let e = c.end.ensures in (
       omega arith,
       omega (arith, k.1),
-      walk_start a.form a.bytes.now _ c.number4-entries.result a.place (may) (rw e refl)
+      walk_start a.form a.bytes.now _ c.number4-entries.result a.place may (rw e refl)
           c.number4-entries.ensures.value,
     )
 
