@@ -3,6 +3,7 @@
 // Inner: `writer_tns`, `writer_pair` and those over them stand over it. It asks for a symbol's part of a row, for a stream that it gave
 // itself (`Flows`), and for room for two bytes.
 #![tactic(auto)]
+
 ghost use Rattle.std.specs.Prelude.{◌≡◌, ◌+◌, ◌*◌, ◌^◌, ◌≤◌, ◌<◌, length, replicate};
 ghost use Rattle.writer_laws.specs.Stream.{send_start, widened, coded, front_of, whole_of};
 ghost use Rattle.writer_steps.specs.Flow.{Part, Streams, Flows, OneMore, Carried};
