@@ -2,6 +2,7 @@
 // slot whose words are corrected. Inner: `slot` and `slot_judging` stand over it. It asks for a size and a mode in range and for data of
 // their length.
 #![tactic(auto)]
+
 ghost use Rattle.std.specs.Prelude.{◌≡◌, length};
 ghost use Rattle.laws.specs.Decides.{Decides};
 ghost use Rattle.slot_laws.specs.Back.{rolled, Matches};
