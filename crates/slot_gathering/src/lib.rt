@@ -1,6 +1,7 @@
 // The words of a received slot taken from their places, signature undone (A.53 to A.55), and the data of corrected words put in order with
 // their counts summed. Inner: `slot_repair` stands over it. It asks for a size and a mode in range and for rooms of their length.
 #![tactic(auto)]
+
 ghost use Rattle.std.specs.Prelude.{◌≡◌, ◌*◌, length};
 ghost use Rattle.slot_laws.specs.Sizes.{word_length};
 ghost use Rattle.slot_laws.specs.Order.{Data};
