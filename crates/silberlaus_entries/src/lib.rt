@@ -1,6 +1,7 @@
 // The frame of an entry of a record of either form, read in place. It stands over `silberlaus_frames` and `record`.
 // Inner: `silberlaus` stands over it. It asks nothing.
 #![tactic(auto)]
+
 ghost use Rattle.std.specs.Prelude.{◌≡◌, length};
 ghost use Rattle.frame_settings.specs.Settings.{last_cause_of, setting_of};
 ghost use Rattle.frame_arithmetic.specs.Answers.{Answers};

@@ -1,6 +1,7 @@
 // A frame read into the fields of C's struct, with document 01's numbers. It stands over `frame`.
 // Inner: `silberlaus_entries` and `silberlaus` stand over it. It asks nothing.
 #![tactic(auto)]
+
 ghost use Rattle.std.specs.Prelude.{◌≡◌, length};
 ghost use Rattle.frame_settings.specs.Settings.{last_cause_of, setting_of};
 ghost use Rattle.frame.specs.Frame.{judged_of};
