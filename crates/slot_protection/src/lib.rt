@@ -2,6 +2,7 @@
 // that specs/ of `slot_laws` makes, or refuses with 1 or 2 (specs/Protect.antt).
 // Inner: `slot` stands over it and hands `protect` on to callers. It asks nothing.
 #![tactic(auto)]
+
 ghost use Rattle.slot_laws.specs.Sizes.{Settings};
 ghost use Rattle.slot_answers.specs.Answers.{protected_number};
 ghost use Rattle.slot_protection.specs.Protect.{Protects};
