@@ -37,7 +37,8 @@ pub limit-fits : (m : ℕ) → m ≤ 32767 → SFits w32 (pos 0 -ℤ to_z w32 m)
 limit-fits m h = rw (minus_is m h) (minus-fits m h)
 
 pub magnitude-test : (v : ℤ) (m : ℕ) → SFits w32 v → m ≤ 32767
-    → le_z (to_z w32 (of_z w32 (pos 0 -ℤ to_z w32 m))) (to_z w32 (of_z w32 v)) && le_z (to_z w32 (of_z w32 v)) (to_z w32 m) ≡ leb (nat_abs v) m
+    → le_z (to_z w32 (of_z w32 (pos 0 -ℤ to_z w32 m))) (to_z w32 (of_z w32 v)) && le_z (to_z w32 (of_z w32 v)) (to_z w32 m)
+    ≡ leb (nat_abs v) m
 magnitude-test v m f h =
     let p : m < 2147483648 = omega arith in
     rw (minus_is m h, to_z-of_z w32 (neg_ℤ (pos m)) (minus-fits m h), to_z-of_z w32 v f, to_z_pos w32 m p) (between v m)

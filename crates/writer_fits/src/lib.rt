@@ -2,13 +2,15 @@
 // definition in specs/Fits.antt of `writer_laws`.
 // Inner: `writer` stands over it. It asks for a known setting, and for at most 400 lines and residual bits.
 #![tactic(auto)]
+
 ghost use Rattle.std.specs.Prelude.{◌≡◌, cond, ◌-◌, ◌^◌, ◌≤◌, ◌<◌, ltb, length};
 ghost use Rattle.frame_bits.specs.Fields.{list_fits};
 ghost use Rattle.frame_settings.specs.Settings.{Known};
 ghost use Rattle.frame_shape.specs.Shape.{shape_fields};
 ghost use Rattle.frame_side.specs.Side.{head_fields, flags_fields, tail_fields};
 ghost use Rattle.writer_laws.specs.SideBits.{head_values, flags_values, shape_values, tail_values};
-ghost use Rattle.writer_laws.specs.Fits.{entries_fit, magnitudes_from, magnitudes_fit, non_zero_from, non_zero, filter_fits, side_fits, fields_fit, lines_fit};
+ghost use Rattle.writer_laws.specs.Fits.{entries_fit, magnitudes_from, magnitudes_fit, non_zero_from, non_zero};
+ghost use Rattle.writer_laws.specs.Fits.{filter_fits, side_fits, fields_fit, lines_fit};
 
 use frame_answers::Fields;
 use frame_settings::{Setting, highest_order, tns_filters};

@@ -4,18 +4,10 @@ use Prim.Native.Nat.{ℕ, ◌*◌, ◌%◌, ◌^◌, ◌≤◌}
 use native.Mathlib.Omega.{arith}
 use native.Mathlib.Nat.{one-mul}
 use lib.Pow.{shl_exact}
-use borrow.Author.Rules.{rules}
-use Rattle.writer_fits.proofs.within.Statement.{statement}
-use Rattle.writer_fits.proofs.within.Tie as tie
+use Rattle.writer_fits.proofs.within.Goals as goal
 
 one_shifted : (w : ℕ) → w ≤ 25 → 1 * 2 ^ w % 2 ^ 64 ≡ 2 ^ w
 one_shifted w h = shl_exact 1 w 64 (omega arith) (omega arith) ∙ one-mul (2 ^ w)
 
-returns : tie.Need-returns
+pub returns : goal.returns
 returns c = rw (one_shifted c.args.w c.requires)
-
-pub within-spec : {M : Type 1} → statement M
-within-spec =
-    tie.close
-    (tie.spec
-    (λ c. search rules) returns)
