@@ -3,6 +3,7 @@
 // for many; `correct_slot` makes them for one.
 // Inner: `slot` and `slot_judging` stand over it. It asks for a size and a mode in range, for rooms of their length and for the tables.
 #![tactic(auto)]
+
 ghost use Rattle.std.specs.Prelude.{◌≡◌, true, ◌-◌, ◌*◌, length};
 ghost use Rattle.code_word_laws.specs.Word.{distance};
 ghost use Rattle.code_word_laws.specs.Checks.{check_rows};
@@ -33,7 +34,7 @@ pub fn clean(
     ensures mended_to { result ≡ true → MendedTo size mode slot.now message.new (words size) 0 0 }
 {
     slot_clean::unpack(slot, places);
-    slot_clean::read_clean(size, mode, places, rows, message)
+    slot_clean::read_clean_with(size, mode, places, rows, message)
 }
 
 // Every word corrected, with the table and with room for the words and for the counts of each.

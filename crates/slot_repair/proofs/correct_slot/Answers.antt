@@ -1,0 +1,62 @@
+-- `slot_repair::correct_slot` meets its contract. The semi-octets that it lends are those of the slot. Assumes nothing.
+use mathlib.Core.Path.{◌≡◌, sym}
+use mathlib.Core.List.{List, ◌++◌}
+use Prim.Native.Nat.{ℕ, ◌*◌}
+use native.Mathlib.Omega.{arith}
+use lib.ListN.{take, drop}
+use lib.Seq.{length-take-le, length_front}
+use Rattle.slot_clean.specs.Inner.{unpacked, SemiOctetsOf}
+use Rattle.slot_laws.proofs.ProtectSteps.{blanks}
+use Rattle.slot_clean.proofs.Unpacking.{lent_is, unpacked-whole}
+use Rattle.slot_repair.proofs.correct_slot.Goals as goal
+
+pub slice_bounds-clean-end : goal.slice_bounds-clean-end
+slice_bounds-clean-end c =
+    sym (length-take-le (2 * c.args.size) blanks (omega (arith, c.requires.range.size_to)))
+
+pub clean-requires : goal.clean-requires
+clean-requires c = let r = c.requires.range in record {
+  slot_and_data = c.requires;
+  rows_value = c.check_rows-rows.ensures.inside r.mode_from r.mode_to;
+  places_len = length-take-le (2 * c.args.size) blanks (omega (arith, r.size_to));
+}
+
+pub returns-then-clean : goal.returns-then-clean
+returns-then-clean c = c.clean.ensures.mended_to c.if-clean.true
+
+pub slice_bounds-places-end-2 : goal.slice_bounds-places-end-2
+slice_bounds-places-end-2 c =
+    let n = 2 * c.args.size in
+    let l = length_front blanks c.clean.new.places n c.clean.auto.places in
+    omega (arith, c.requires.range.size_to)
+
+pub slice_bounds-repair-end : goal.slice_bounds-repair-end
+slice_bounds-repair-end c =
+    let lent : List ℕ =
+    let n = 2 * c.args.size in take n (c.clean.new.places ++ drop n blanks) in
+    let is : lent ≡ unpacked c.args.slot.now =
+    lent_is c.args.size c.args.slot.now c.clean.new.places _ c.requires.long c.clean.ensures.places_after in
+    let whole : SemiOctetsOf c.args.size c.args.mode lent =
+    unpacked-whole c.args.size c.args.slot.now lent c.requires.long is c.requires.range in
+    sym whole.long
+
+pub repair-requires : goal.repair-requires
+repair-requires c =
+    let lent : List ℕ =
+    let n = 2 * c.args.size in take n (c.clean.new.places ++ drop n blanks) in
+    let is : lent ≡ unpacked c.args.slot.now =
+    lent_is c.args.size c.args.slot.now c.clean.new.places _ c.requires.long c.clean.ensures.places_after in
+    let whole : SemiOctetsOf c.args.size c.args.mode lent =
+    unpacked-whole c.args.size c.args.slot.now lent c.requires.long is c.requires.range in
+    record {
+      semi_octets_of = whole;
+      fact = c.clean.ensures.fact;
+    }
+
+pub returns : goal.returns
+returns c =
+    let lent : List ℕ =
+    let n = 2 * c.args.size in take n (c.clean.new.places ++ drop n blanks) in
+    let is : lent ≡ unpacked c.args.slot.now =
+    lent_is c.args.size c.args.slot.now c.clean.new.places _ c.requires.long c.clean.ensures.places_after in
+    c.repair.ensures c.args.slot.now c.requires.long is
