@@ -3,6 +3,7 @@
 // Inner: `writer_side`, `writer_pair` and those over them stand over it. It asks for 512 bytes of room, for a cursor that it gave itself
 // (`Open`), and for bits that fit the room.
 #![tactic(auto)]
+
 ghost use Rattle.std.specs.Prelude.{◌≡◌, ◌+◌, ◌^◌, ◌≤◌, ◌<◌, length, take};
 ghost use Rattle.frame_bits.specs.Fields.{value_bits};
 ghost use Rattle.writer_steps.specs.Cursors.{Open, Puts, Closes, Binary};
