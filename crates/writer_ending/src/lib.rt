@@ -2,6 +2,7 @@
 // specs/Ending.antt of `writer_laws` or in specs/Joined.antt.
 // Inner: `writer_frame` stands over it. It asks for streams of `writer_stream` and `writer_bits` that share no bit of the frame.
 #![tactic(auto)]
+
 ghost use Rattle.std.specs.Prelude.{◌≡◌, ◌+◌, ◌-◌, ◌*◌, ◌^◌, ◌≤◌, ◌<◌, length};
 ghost use Rattle.writer_laws.specs.Stream.{front_of, whole_of};
 ghost use Rattle.writer_steps.specs.Flow.{Flows};
