@@ -3,6 +3,7 @@
 // Inner: `writer_frame` stands over it. It asks for the TNS tables, for an order up to 8 and coefficients up to 16, and for a stream of
 // `writer_stream`.
 #![tactic(auto)]
+
 ghost use Rattle.std.specs.Prelude.{◌≡◌, ◌≤◌, ◌<◌, length};
 ghost use Rattle.frame_tns.specs.Sound.{CoefficientRows, TnsTables};
 ghost use Rattle.writer_laws.specs.Stream.{coded_all, whole_of};
