@@ -2,6 +2,7 @@
 // Inner: `frame_arithmetic`, `frame` and the crates of `writer` stand over it, and `frame` hands the answers on to callers. It asks
 // nothing.
 #![tactic(auto)]
+
 ghost use Rattle.std.specs.Prelude.{◌≡◌};
 ghost use Rattle.frame_tns.specs.Tns.{unused};
 ghost use Rattle.frame_answers.specs.Answers.{answered};
