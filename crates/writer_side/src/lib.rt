@@ -3,6 +3,7 @@
 // Inner: `writer_frame` stands over it. It asks for a known setting, for side information that fits its fields, and for a cursor of
 // `writer_bits`.
 #![tactic(auto)]
+
 ghost use Rattle.std.specs.Prelude.{◌≡◌, true, ◌+◌, ◌≤◌, ◌<◌, replicate};
 ghost use Rattle.frame_bits.specs.Fields.{list_bits, list_fits};
 ghost use Rattle.frame_settings.specs.Settings.{Known};
