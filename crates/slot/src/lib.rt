@@ -3,6 +3,7 @@
 // refuses with 1 or 2; `unprotect` answers by document 01's rule, which leaves no choice, and writes the frame on 0 alone; `carry` is
 // demand 3 of the two.
 #![tactic(auto)]
+
 ghost use Rattle.slot_laws.specs.Sizes.{InRange};
 ghost use Rattle.slot_answers.specs.Answers.{told_of};
 ghost use Rattle.slot.specs.Unprotect.{Unprotects, Recordable};
