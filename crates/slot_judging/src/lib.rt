@@ -2,6 +2,7 @@
 // Inner: `slot_each` stands over it. It asks for a size and a mode in range, for a slot and a frame of their length, for the tables and for
 // room.
 #![tactic(auto)]
+
 ghost use Rattle.std.specs.Prelude.{◌≡◌, length};
 ghost use Rattle.slot_laws.specs.Sizes.{frame_size};
 ghost use Rattle.slot_laws.specs.Order.{Data};
