@@ -36,7 +36,8 @@ pub seen_start : (s : List ℕ) → seen s send_start ≡ start_of s
 unfolding front_of
 seen_start s =
     let f : ℕ → Coder = λ x. record { low = x; range = 16777215; at = 3; taken = 0 } in
-    let e : ((0 * 256 + get_or s 0 0) * 256 + get_or s 1 0) * 256 + get_or s 2 0 - 0 ≡ (get_or s 0 0 * 256 + get_or s 1 0) * 256 + get_or s 2 0 =
+    let e : ((0 * 256 + get_or s 0 0) * 256 + get_or s 1 0) * 256 + get_or s 2 0 - 0
+    ≡ (get_or s 0 0 * 256 + get_or s 1 0) * 256 + get_or s 2 0 =
     omega arith in
     ap f e
 

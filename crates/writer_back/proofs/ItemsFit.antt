@@ -24,7 +24,8 @@ pub tns-tables : TnsTables order_table coefficient_table
 tns-tables = record { order = order_row; coefficient = coefficient-row }
 
 pub filter-items-fit :
-    (q n flag order : ℕ) (l : List ℕ) → FilterGiven q flag order l → Fit (filter_items order_table coefficient_table (weighting q n) order l)
+    (q n flag order : ℕ) (l : List ℕ) → FilterGiven q flag order l
+    → Fit (filter_items order_table coefficient_table (weighting q n) order l)
 filter-items-fit q n flag order l h =
     let m = h.most in
     let k = order-most q in

@@ -180,7 +180,8 @@ module _ (look cum : List ℕ) (tables : SpectrumTables look cum) (base : ℕ) (
       let g : q + length (sign_bits u) + length (sign_bits v) ≡ r = omega arith in
       let end : sign_of s y (q + length (sign_bits u)) ≡ value (sign_of_z v) r = sv ∙ ap (λ (z : ℕ). value (sign_of_z v) z) g in
       pair-signed s look cum 0 base context (seen s c) p last (seen s e) q x y walk0 fx fy
-      ∙ signed-read s context x y last (seen s e) q (sign_of_z u) (q + length (sign_bits u)) (sign_of_z v) r (context_behind context u v) su end
+      ∙ signed-read s context x y last (seen s e) q (sign_of_z u) (q + length (sign_bits u)) (sign_of_z v) r
+      (context_behind context u v) su end
       (not-crossed (length s) e.at r room) next
 
 -- ---- all pairs

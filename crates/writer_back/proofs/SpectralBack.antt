@@ -117,7 +117,8 @@ module _ (s : List ℕ) (r : Setting) (h : Head) (xs : List ℤ) (given : List �
         Bytes s → Small xs → Carries s p (pairs_bits xs (h.last_line / 2) 0) → Inside s behind → behind.at ≤ length s
         → used_bits side_end behind ≤ 8 * length s
         → spectral_from s r h (seen s c) p
-        ≡ value (record { symbols = behind.taken; lines = xs; residual = residual_given sent_number (kept_bits sent_number given) }) side_end
+        ≡ value (record { symbols = behind.taken; lines = xs; residual = residual_given sent_number (kept_bits sent_number given) })
+        side_end
     unfolding spectral_from stored
     spectral-back bytes small carries inside at room =
         let o : PairSetting = pair_setting r (length s) h.lsb_mode in

@@ -189,7 +189,8 @@ ended-number front k j v e h z =
     omega arith
 
 -- the number of all 512 bytes
-ended-front : (front : List ℕ) (k j v : ℕ) → length front ≡ 512 → j ≡ k + 1 → k ≤ 497 → ((i : ℕ) → k ≤ i → get_or front i 0 ≡ 0) → v % 256 ≡ 0
+ended-front : (front : List ℕ) (k j v : ℕ) → length front ≡ 512 → j ≡ k + 1 → k ≤ 497 → ((i : ℕ) → k ≤ i → get_or front i 0 ≡ 0)
+    → v % 256 ≡ 0
     → front_of (ended front k j v) 512 ≡ (front_of front k * 16777216 + v) * 2 ^ (8 * (509 - k))
 ended-front front k j v n e h fresh z =
     let s : List ℕ = ended front k j v in

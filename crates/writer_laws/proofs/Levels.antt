@@ -162,7 +162,8 @@ pairs-append xs (suc m) n k =
     ∙ sym (append_assoc here (pairs_bits xs m (suc k)) (pairs_bits xs n (k + suc m))))
 
 -- a pair more
-pub pairs-snoc : (xs : List ℤ) (k : ℕ) → pairs_bits xs k 0 ++ pair_bits (line_at xs (2 * k)) (line_at xs (2 * k + 1)) ≡ pairs_bits xs (k + 1) 0
+pub pairs-snoc : (xs : List ℤ) (k : ℕ)
+    → pairs_bits xs k 0 ++ pair_bits (line_at xs (2 * k)) (line_at xs (2 * k + 1)) ≡ pairs_bits xs (k + 1) 0
 unfolding pairs_bits
 pairs-snoc xs k =
     let e = rw zero-add at (pairs-append xs k 1 0) in
