@@ -159,6 +159,13 @@ pub record Walks (look cum : List ℕ) (base x y : ℕ) (front₀ side₀ : List
   pub flows : Flows front c
   pub sides : Open side p
 
+-- at most 13 escapes are written, and there is room for what comes
+pub record Room (level : ℕ) (c : Coder) (p : Cursor) : Type 0 where
+  pub few : level ≤ 13
+  pub at : c.at ≤ 512
+  pub taken : c.taken < 65536
+  pub written : p.at ≤ 4000
+
 module _ (look cum : List ℕ) (base x y : ℕ) (small : x ≤ 32767) (small' : y ≤ 32767) (front₀ side₀ : List ℕ) (c₀ : Coder)
     (p₀ : Cursor) where
   pub walks-first : Flows front₀ c₀ → Open side₀ p₀ → Walks look cum base x y front₀ side₀ c₀ p₀ front₀ side₀ x y 0 c₀ p₀
@@ -183,6 +190,14 @@ module _ (look cum : List ℕ) (base x y : ℕ) (small : x ≤ 32767) (small' : 
     -- no more than 13
     pub walks-few : level ≤ 13
     walks-few = let h = (level_in x y small small').2 in let e = w.few in omega arith
+
+    pub walks-room : c₀.at ≤ 480 → c₀.taken ≤ 32768 → p₀.at ≤ 3500 → Room level c p
+    walks-room h k m =
+        let few = walks-few in
+        let at1 = w.at in
+        let taken1 = w.taken in
+        let written1 = w.written in
+        record { few = few; at = omega arith; taken = omega arith; written = omega arith }
 
     -- an escape more: its level is not the last
     pub walks_less : Escapes a b → level < level_of x y

@@ -3,6 +3,7 @@
 // Inner: `writer_pairs` stands over it. It asks for the tables of the spectrum, for magnitudes up to 32,767, and for streams of
 // `writer_stream` and `writer_bits` with room for a pair.
 #![tactic(auto)]
+
 ghost use Rattle.std.specs.Prelude.{◌≡◌, ◌+◌, ◌*◌, ◌/◌, ◌^◌, ◌≤◌, ◌<◌, nat_abs, length};
 ghost use Rattle.coder_tables.specs.Layout.{by_level};
 ghost use Rattle.frame_bits.specs.Fields.{value_bits};

@@ -157,7 +157,8 @@ pub flags-same : (m n b d : ℕ) (f : Flags) → m ≡ n → b ≡ d → list_fi
     → list_fits (flags_fields m b) (flags_values f) ≡ true
 flags-same m n b d f e g h = rw (e, g) h
 
-pub tail-same : (p q : ℕ) (t : Tail) → p ≡ q → list_fits (tail_fields q) (tail_values t) ≡ true → list_fits (tail_fields p) (tail_values t) ≡ true
+pub tail-same : (p q : ℕ) (t : Tail) → p ≡ q → list_fits (tail_fields q) (tail_values t) ≡ true
+    → list_fits (tail_fields p) (tail_values t) ≡ true
 tail-same p q t e h = rw e h
 
 -- the four parts in a row, into room of zeros
