@@ -2,14 +2,13 @@
 -- and demand 3 holds of every slot (`each-demand`). Assumes nothing.
 use mathlib.Core.Path.{◌≡◌, refl, sym, ap, ap₂, ◌∙◌}
 use mathlib.Core.List.{List}
-use Prim.Native.Nat.{ℕ, zero, suc, ◌+◌, ◌-◌, ◌*◌, ◌/◌, ◌%◌, ◌<◌}
+use Prim.Native.Nat.{ℕ, zero, suc, ◌+◌, ◌*◌, ◌/◌, ◌%◌, ◌<◌}
 use native.Mathlib.Omega.{arith}
 use native.Mathlib.Nat.{div-add-mod', mod-lt, div-lt_iff_lt-mul}
-use lib.ListN.{length, take, drop, get_or}
+use lib.ListN.{length, drop, get_or}
 use lib.Seq.{get_or-take, get_or-drop}
-use Rattle.laws.specs.Tab.{tab}
 use Rattle.laws.proofs.Tab.{tab-is, tab-same}
-use Rattle.slot_laws.specs.Sizes.{InRange, frame_size}
+use Rattle.slot_laws.specs.Sizes.{frame_size}
 use Rattle.slot_laws.proofs.Sizes.{frame-bounds}
 use Rattle.slot_protection.specs.Protect.{Protects}
 use Rattle.slot_answers.specs.Answers.{Told}

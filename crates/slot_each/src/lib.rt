@@ -1,6 +1,7 @@
 // The slots of one size and mode that stand end to end, unprotected one after the other with the same tables and in the same room.
 // Inner: `slot_room` stands over it. It asks for a size and a mode in range, for buffers that fit, for the tables and for room.
 #![tactic(auto)]
+
 ghost use Rattle.std.specs.Prelude.{length};
 ghost use Rattle.slot_judging.specs.Inner.{Lent};
 ghost use Rattle.slot_each.specs.Each.{five, Fits};
