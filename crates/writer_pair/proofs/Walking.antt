@@ -77,7 +77,8 @@ module _ (u : ℤ) (small : nat_abs u ≤ 32767) where
       let m = minus-size in
       (subst (λ (z : ℤ). T (non_neg z)) (sym minus-bits) (neg_of u (rw bits_are at e)), record { fits = omega arith })
 
-  pub plus-cast : lt_z (to_z w32 (of_z w32 u)) (pos 0) ≡ false → T (non_neg (to_z w32 (of_z w32 u))) × Fits w64 (nat_abs (to_z w32 (of_z w32 u)))
+  pub plus-cast : lt_z (to_z w32 (of_z w32 u)) (pos 0) ≡ false
+      → T (non_neg (to_z w32 (of_z w32 u))) × Fits w64 (nat_abs (to_z w32 (of_z w32 u)))
   plus-cast e =
       let m = ap nat_abs bits_are in
       (subst (λ (z : ℤ). T (non_neg z)) (sym bits_are) (not_neg u (rw bits_are at e)), record { fits = omega arith })
@@ -253,8 +254,8 @@ module _ (look cum : List ℕ) (base x y : ℕ) (small : x ≤ 32767) (small' : 
       walks-symbol : a + 4 * b ≡ symbol_at x y (level_of x y)
       walks-symbol = ap₂ (λ (i j : ℕ). i + 4 * j) w.first w.second ∙ ap (λ (l : ℕ). symbol_at x y l) walks-level
 
-      walks-sent : Sent (walk_items look cum base (symbol_at x y (level_of x y)) (level_of x y) 0) (walk_bits x y (level_of x y) 0) front₀ front'
-          side₀ side c₀ d p₀ p
+      walks-sent : Sent (walk_items look cum base (symbol_at x y (level_of x y)) (level_of x y) 0) (walk_bits x y (level_of x y) 0)
+          front₀ front' side₀ side c₀ d p₀ p
       walks-sent =
           let l : ℕ = level_of x y in
           let v : ℕ = symbol_at x y l in
@@ -337,8 +338,8 @@ sign-room u h k e = let l = sign-length u in omega arith
 -- the escapes and the last symbol, and then both signs behind them
 module _ (look cum : List ℕ) (base x y : ℕ) (u v : ℤ) (isx : x ≡ nat_abs u) (isy : y ≡ nat_abs v)
     (front front' side side1 side2 side3 : List ℕ) (c d : Coder) (p p1 p2 p3 : Cursor) where
-  pub pair-sent : Sent (walk_items look cum base (symbol_at x y (level_of x y)) (level_of x y) 0) (walk_bits x y (level_of x y) 0) front front'
-      side side1 c d p p1
+  pub pair-sent : Sent (walk_items look cum base (symbol_at x y (level_of x y)) (level_of x y) 0) (walk_bits x y (level_of x y) 0)
+      front front' side side1 c d p p1
       → Puts (sign_bits u) side1 side2 p1 p2 → p2.at ≡ p1.at + length (sign_bits u)
       → Puts (sign_bits v) side2 side3 p2 p3 → p3.at ≡ p2.at + length (sign_bits v)
       → Sent (pair_items look cum base u v) (pair_bits u v) front front' side side3 c d p p3

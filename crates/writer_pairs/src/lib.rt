@@ -3,6 +3,7 @@
 // Inner: `writer_frame` stands over it. It asks as `writer_pair` does, for at most 200 pairs, for lines up to 32,767, and for a frame of at
 // most 400 bytes.
 #![tactic(auto)]
+
 ghost use Rattle.std.specs.Prelude.{◌+◌, ◌*◌, ◌≤◌, length};
 ghost use Rattle.coder_tables.specs.Layout.{by_level};
 ghost use Rattle.frame_pair.specs.Sound.{PairTables};
