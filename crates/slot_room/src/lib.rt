@@ -1,6 +1,7 @@
 // The tables and the cleared room for the slots of a batch, made once and lent to all of them.
 // Inner: `slot_batch` stands over it. It asks for a size and a mode in range and for buffers that fit.
 #![tactic(auto)]
+
 ghost use Rattle.std.specs.Prelude.{length};
 ghost use Rattle.slot_laws.specs.Sizes.{InRange};
 ghost use Rattle.slot_each.specs.Each.{five, Fits};
