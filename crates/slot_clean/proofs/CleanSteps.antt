@@ -68,7 +68,8 @@ module _ {size mode i n : ℕ} {row places : List ℕ} (word : AtWord size mode 
       let f = checks-fit size mode i word.range word.word_below in
       length-take-le (distance mode - 1) (word_from size mode places i) (omega (arith, length_from size mode places i))
 
-  pub data-last : {l k : ℕ} {w : List ℕ} → l ≡ data_length size mode i → Filled (λ k. get_or (data_from size mode places i) k 0) l k w → l ≤ k
+  pub data-last : {l k : ℕ} {w : List ℕ} → l ≡ data_length size mode i → Filled (λ k. get_or (data_from size mode places i) k 0) l k w
+      → l ≤ k
       → w ≡ data_from size mode places i
   data-last {l} {k} {w} e f m =
       filled-last (λ k. get_or (data_from size mode places i) k 0) l k w f m

@@ -25,10 +25,12 @@ pub arrived-last : (size mode i n k : ℕ) (places w : List ℕ) → n ≡ word_
     → Filled (λ j. get_or (word_from size mode places i) j 0) n k w → w ≡ word_from size mode places i
 arrived-last size mode i n k places w e l f =
     let word = word_from size mode places i in
-    filled-last (λ j. get_or word j 0) n k w f l ∙ tab-is (λ j. get_or word j 0) n word (length_from size mode places i ∙ sym e) (λ j m. refl)
+    filled-last (λ j. get_or word j 0) n k w f l
+    ∙ tab-is (λ j. get_or word j 0) n word (length_from size mode places i ∙ sym e) (λ j m. refl)
 
 -- where the next word starts
-pub next-from : (size i from n : ℕ) → from ≡ total (word_length size) i → n ≡ word_length size i → from + n ≡ total (word_length size) (i + 1)
+pub next-from : (size i from n : ℕ) → from ≡ total (word_length size) i → n ≡ word_length size i
+    → from + n ≡ total (word_length size) (i + 1)
 next-from size i from n e l =
     ap₂ (λ (x y : ℕ). x + y) e l ∙ sym (total-next (word_length size) i) ∙ ap (total (word_length size)) (sym (add-one i))
 

@@ -170,7 +170,8 @@ behind h out last l =
 
 pub arranged : (size mode q h : ℕ) (frame out last front : List ℕ) → h ≡ heading_size size mode → h ≤ length out
     → length frame ≡ frame_size size mode
-    → last ≡ unrolled (length frame) frame → front ≡ ordered size mode q (drop (heading_size size mode) (put_mid h (length out - h) out last))
+    → last ≡ unrolled (length frame) frame
+    → front ≡ ordered size mode q (drop (heading_size size mode) (put_mid h (length out - h) out last))
     → front ≡ ordered size mode q (unrolled (frame_size size mode) frame)
 arranged size mode q h frame out last front e l n u f =
     f ∙ ap (λ (m : ℕ). ordered size mode q (drop m (put_mid h (length out - h) out last))) (sym e)

@@ -15,7 +15,8 @@ use Rattle.slot_clean.proofs.receive_data.Goals as goal
 pub loop-k-init : goal.loop-k-init
 loop-k-init c =
     let a = c.args in
-    (omega arith, filled-first (datum c.args.size c.args.mode c.args.places.now c.args.i) (length a.w.now) a.w.now refl, summed-none a.rows.now (datum c.args.size c.args.mode c.args.places.now c.args.i))
+    let wanted = datum a.size a.mode a.places.now a.i in
+    (omega arith, filled-first wanted (length a.w.now) a.w.now refl, summed-none a.rows.now wanted)
 
 pub place-requires : goal.place-requires
 place-requires c =
@@ -37,16 +38,18 @@ pub loop-k-preserved : goal.loop-k-preserved
 loop-k-preserved c =
     let in-data : let a = c.args in c.loop-k.k < data_length a.size a.mode a.i =
     omega (arith, c.requires.w_len, c.loop-k-test.true, c.loop-k.invariant.1.long) in
+    let wanted = datum c.args.size c.args.mode c.args.places.now c.args.i in
     let x = data-at c.requires.at_word c.distance-checks.ensures in-data c.place.ensures.value in (
       omega arith,
-      filled_next (datum c.args.size c.args.mode c.args.places.now c.args.i) (length c.args.w.now) c.loop-k.k c.loop-k.w _ c.loop-k.invariant.1
+      filled_next wanted (length c.args.w.now) c.loop-k.k c.loop-k.w _ c.loop-k.invariant.1
           (omega (arith, c.loop-k-test.true, c.loop-k.invariant.1.long)) x,
-      summed-next c.args.rows.now (datum c.args.size c.args.mode c.args.places.now c.args.i) c.loop-k.k _ c.loop-k.r c.with_data-r.result x c.loop-k.invariant.2
+      summed-next c.args.rows.now wanted c.loop-k.k _ c.loop-k.r c.with_data-r.result x c.loop-k.invariant.2
           c.with_data-r.ensures,
     )
 
 pub returns : goal.returns
-returns c = let h = c.loop-k in
+returns c =
+    let h = c.loop-k in
     let a = c.args in
     let e : h.k ≡ data_length a.size a.mode a.i = omega (
       arith,
@@ -57,5 +60,5 @@ returns c = let h = c.loop-k in
     ) in
     record {
       w_after = data-last c.requires.at_word c.requires.w_len h.invariant.1 (omega (arith, c.requires.w_len));
-      checks_summed = h.invariant.2 ∙ ap (summed a.rows.now (datum c.args.size c.args.mode c.args.places.now c.args.i)) e;
+      checks_summed = h.invariant.2 ∙ ap (summed a.rows.now (datum a.size a.mode a.places.now a.i)) e;
     }

@@ -23,9 +23,6 @@ loop-i-init c =
       gathered-first a.size a.mode a.all.now a.counts.now a.bits.now a.message.now c.requires.rooms.given,
     )
 
-pub overflow_cast-n : goal.overflow_cast-n
-overflow_cast-n c = record { fits = omega (arith, (c.type_inv.counts c.loop-i.i).fits) }
-
 pub returns-then-mode-n : goal.returns-then-mode-n
 returns-then-mode-n c = record {
   gathered = record {
@@ -76,11 +73,9 @@ overflow_add-sum c =
     (c.loop-i.at + (c.word_length-long.result - (c.distance-checks.result - 1))) c.loop-i.message =
     word-part c.requires.semi_octets_of.range c.requires.rooms.many c.loop-i-test.true c.loop-i.invariant.4 c.loop-i.invariant.5.given
     c.word_length-long.ensures.value c.distance-checks.ensures in
-    let few : get_or c.args.counts.now c.loop-i.i 0 < c.args.mode =
-    omega (arith, c.if-mode-n.false) in
     let r = c.requires.semi_octets_of.range in
     let w = words-high c.args.size in
-    record { fits = omega (arith, r.size_to, part.inside, c.loop-i.invariant.1, r.mode_to, few) }
+    record { fits = omega (arith, r.size_to, part.inside, c.loop-i.invariant.1, r.mode_to, c.if-mode-n.false) }
 
 pub bounds-bits-i : goal.bounds-bits-i
 bounds-bits-i c =
@@ -90,22 +85,14 @@ bounds-bits-i c =
     c.word_length-long.ensures.value c.distance-checks.ensures in
     omega (arith, part.inside, c.requires.rooms.many_bits)
 
-pub overflow_cast-bit_sum : goal.overflow_cast-bit_sum
-overflow_cast-bit_sum c =
-    let bits_fit : get_or c.args.bits.now c.loop-i.i 0 < 256 =
-    (c.type_inv.bits c.loop-i.i).fits in
-    record { fits = omega (arith, bits_fit) }
-
 pub overflow_add-bit_sum : goal.overflow_add-bit_sum
 overflow_add-bit_sum c =
     let part : let a = c.args in WordPart a.size a.mode c.loop-i.i c.loop-i.at c.word_length-long.result
     (c.loop-i.at + (c.word_length-long.result - (c.distance-checks.result - 1))) c.loop-i.message =
     word-part c.requires.semi_octets_of.range c.requires.rooms.many c.loop-i-test.true c.loop-i.invariant.4 c.loop-i.invariant.5.given
     c.word_length-long.ensures.value c.distance-checks.ensures in
-    let bits_fit : get_or c.args.bits.now c.loop-i.i 0 < 256 =
-    (c.type_inv.bits c.loop-i.i).fits in
     let w = words-high c.args.size in
-    record { fits = omega (arith, c.requires.semi_octets_of.range.size_to, part.inside, c.loop-i.invariant.2, bits_fit) }
+    record { fits = omega (arith, c.requires.semi_octets_of.range.size_to, part.inside, c.loop-i.invariant.2) }
 
 pub overflow_add-from-in-loop-i : goal.overflow_add-from-in-loop-i
 overflow_add-from-in-loop-i c =
@@ -123,22 +110,19 @@ loop-i-preserved c =
     (c.loop-i.at + (c.word_length-long.result - (c.distance-checks.result - 1))) c.loop-i.message =
     word-part c.requires.semi_octets_of.range c.requires.rooms.many c.loop-i-test.true c.loop-i.invariant.4 c.loop-i.invariant.5.given
     c.word_length-long.ensures.value c.distance-checks.ensures in
-    let few : get_or c.args.counts.now c.loop-i.i 0 < c.args.mode =
-    omega (arith, c.if-mode-n.false) in
-    let bits_fit : get_or c.args.bits.now c.loop-i.i 0 < 256 =
-    (c.type_inv.bits c.loop-i.i).fits in
-    let f = few in (
+    let few : get_or c.args.counts.now c.loop-i.i 0 < c.args.mode = omega (arith, c.if-mode-n.false) in (
       omega (arith, c.loop-i-test.true),
-      omega (arith, c.loop-i.invariant.1, f, c.requires.semi_octets_of.range.mode_to),
-      omega (arith, c.loop-i.invariant.2, bits_fit),
+      omega (arith, c.loop-i.invariant.1, c.if-mode-n.false, c.requires.semi_octets_of.range.mode_to),
+      omega (arith, c.loop-i.invariant.2),
       next-from c.args.size c.loop-i.i c.loop-i.from c.word_length-long.result c.loop-i.invariant.3 c.word_length-long.ensures.value,
       next_start part,
       gathered_next part c.requires.semi_octets_of c.loop-i.invariant.3 c.distance-checks.ensures c.copy_part.ensures
-          c.loop-i.invariant.5 refl refl f,
+          c.loop-i.invariant.5 refl refl few,
     )
 
 pub returns : goal.returns
-returns c = let h = c.loop-i in
+returns c =
+    let h = c.loop-i in
     let e : h.i ≡ words c.args.size = omega (arith, h.invariant.0, c.requires.rooms.many, c.loop-i-test.false) in
     record {
       gathered = rw e at h.invariant.5;
