@@ -2,6 +2,7 @@
 // only then the lent frame. The function equals its definition in specs/Writing.antt of `writer_laws`.
 // Inner: `writer` stands over it. It asks for what `writer_fits` has found to fit, and a frame of 20 to 400 bytes.
 #![tactic(auto)]
+
 ghost use Rattle.std.specs.Prelude.{◌≡◌, length, replicate};
 ghost use Rattle.writer_laws.specs.Writing.{given};
 ghost use Rattle.writer_steps.specs.Frames.{Writable, StreamsAre, Rest, RestIs, FrameIs};

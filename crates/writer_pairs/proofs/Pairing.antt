@@ -132,7 +132,8 @@ module _ (look cum : List ℕ) (o : PairSetting) (xs : List ℤ) (n bytes : ℕ)
           let a = at_all (pairs_items look cum o xs m (k + 1) next) (whole_of front' d) in
           let b = ap (λ (z : Coder). z.at) more-rest in
           let e : k + 1 + m ≡ n = omega arith in
-          let whole : pairs_bits xs (k + 1 + m) 0 ≡ pairs_bits xs (k + 1) 0 ++ pairs_bits xs m (0 + (k + 1)) = pairs-append xs (k + 1) m 0 in
+          let whole : pairs_bits xs (k + 1 + m) 0 ≡ pairs_bits xs (k + 1) 0 ++ pairs_bits xs m (0 + (k + 1)) =
+          pairs-append xs (k + 1) m 0 in
           let l = length-append (pairs_bits xs (k + 1) 0) (pairs_bits xs m (0 + (k + 1))) in
           let w : length (pairs_bits xs n 0) ≡ length (pairs_bits xs (k + 1) 0 ++ pairs_bits xs m (0 + (k + 1))) =
           ap (λ (j : ℕ). length (pairs_bits xs j 0)) (sym e) ∙ ap length whole in
