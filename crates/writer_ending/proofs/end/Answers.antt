@@ -1,8 +1,7 @@
 -- `writer_ending::end` meets its contract. The last multiple is put behind the bytes, with or without a carry. Assumes nothing.
 use mathlib.Core.Path.{sym, subst}
-use Prim.Native.Nat.{◌-◌, ◌/◌}
+use Prim.Native.Nat.{◌-◌}
 use native.Mathlib.Omega.{arith}
-use lib.ListN.{length-set}
 use Rattle.writer_steps.specs.Flow.{Carried}
 use Rattle.writer_ending.proofs.Finishing.{Last, Before, carry-fits, before_same, before-carried, end-done, end-room}
 use Rattle.writer_ending.proofs.end.Goals as goal
@@ -48,55 +47,6 @@ overflow_cast-front c =
     ] in
     let h = b.short in
     record { fits = omega arith }
-
-pub bounds-front-at : goal.bounds-front-at
-bounds-front-at c =
-    let a = c.args in
-    let g = c.exponent.ensures in
-    let l : Last a.front.now a.c c.exponent.result c.round_up-v.result =
-    record {
-      flows = c.requires.flows;
-      room = c.requires.at_bound;
-      bits = g.result_value;
-      least = g.lower_bound;
-      most = g.upper_bound;
-      value = c.round_up-v.ensures.value;
-      near = c.round_up-v.ensures.upper_bound;
-    } in
-    let b : Before a.front.now a.c c.exponent.result c.round_up-v.result c.if-v-ge16777216.front c.if-v-ge16777216.v =
-    elim c.if-v-ge16777216.branch [
-      | then-v-ge16777216 w ↦ before-carried l w.if-v-ge16777216.true
-          (subst (Carried (a.c.at - 3) a.front.now) (sym w.front-is) w.carry.ensures) w.v-is
-      | else-v-ge16777216 w ↦ before_same l w.if-v-ge16777216.false w.front-is w.v-is
-    ] in
-    let n = b.room in
-    let h = b.last.room in
-    omega arith
-
-pub bounds-front-at-2 : goal.bounds-front-at-2
-bounds-front-at-2 c =
-    let a = c.args in
-    let g = c.exponent.ensures in
-    let l : Last a.front.now a.c c.exponent.result c.round_up-v.result =
-    record {
-      flows = c.requires.flows;
-      room = c.requires.at_bound;
-      bits = g.result_value;
-      least = g.lower_bound;
-      most = g.upper_bound;
-      value = c.round_up-v.ensures.value;
-      near = c.round_up-v.ensures.upper_bound;
-    } in
-    let b : Before a.front.now a.c c.exponent.result c.round_up-v.result c.if-v-ge16777216.front c.if-v-ge16777216.v =
-    elim c.if-v-ge16777216.branch [
-      | then-v-ge16777216 w ↦ before-carried l w.if-v-ge16777216.true
-          (subst (Carried (a.c.at - 3) a.front.now) (sym w.front-is) w.carry.ensures) w.v-is
-      | else-v-ge16777216 w ↦ before_same l w.if-v-ge16777216.false w.front-is w.v-is
-    ] in
-    let n = b.room in
-    let h = b.last.room in
-    let s = length-set c.if-v-ge16777216.front (c.args.c.at - 3) (c.if-v-ge16777216.v / 65536) in
-    omega arith
 
 pub returns : goal.returns
 returns c =

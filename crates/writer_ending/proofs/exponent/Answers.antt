@@ -16,12 +16,10 @@ overflow_add-round_up c =
 
 pub returns-then-round_up-e : goal.returns-then-round_up-e
 returns-then-round_up-e c =
-    let least : 16 ≤ c.log2-e.result =
-    exponent-least c.args.range c.log2-e.result c.requires.le_range c.log2-e.ensures.value in
     let g = c.log2-e in
     let m = g.ensures.upper_bound in
-    let l = least in
     let a = c.args in
+    let l : 16 ≤ g.result = exponent-least a.range g.result c.requires.le_range g.ensures.value in
     let b =
     exponent-here a.low a.range g.result c.round_up.result g.ensures.value c.round_up.ensures.value
     (rw (one_shifted g.result m) at c.if-round_up-e.true) in
@@ -33,18 +31,15 @@ returns-then-round_up-e c =
 
 pub overflow_sub-result : goal.overflow_sub-result
 overflow_sub-result c =
-    let least : 16 ≤ c.log2-e.result =
-    exponent-least c.args.range c.log2-e.result c.requires.le_range c.log2-e.ensures.value in
-    let l = least in omega arith
+    let l : 16 ≤ c.log2-e.result = exponent-least c.args.range c.log2-e.result c.requires.le_range c.log2-e.ensures.value in
+    omega arith
 
 pub returns : goal.returns
 returns c =
-    let least : 16 ≤ c.log2-e.result =
-    exponent-least c.args.range c.log2-e.result c.requires.le_range c.log2-e.ensures.value in
     let g = c.log2-e in
     let m = g.ensures.upper_bound in
-    let l = least in
     let a = c.args in
+    let l : 16 ≤ g.result = exponent-least a.range g.result c.requires.le_range g.ensures.value in
     let b =
     exponent-less a.low a.range g.result c.round_up.result (omega arith) g.ensures.value c.round_up.ensures.value
     (rw (one_shifted g.result m) at c.if-round_up-e.false) in
