@@ -1,14 +1,14 @@
 -- The six lengths of a batch compared: what each test decides. Assumes nothing.
 use mathlib.Core.Path.{◌≡◌, refl, sym, ap, ◌∙◌}
 use mathlib.Core.Bool.{Bool, true, false}
-use Prim.Native.Nat.{ℕ, ◌+◌, ◌-◌, ◌*◌, ◌/◌, ◌%◌, ◌≤◌, ◌<◌}
+use Prim.Native.Nat.{ℕ, ◌+◌, ◌*◌, ◌/◌, ◌%◌, ◌≤◌, ◌<◌}
 use native.Mathlib.Omega.{arith}
 use native.Mathlib.Nat.{div-add-mod', mul-le-mul_left}
 use lib.Arith.{digits_div, digits_mod}
 use lib.Dec.{eqb}
 use borrow.Author.Tests.{eqb-true, eqb-false}
 use Rattle.laws.specs.Decides.{Decides}
-use Rattle.slot_laws.specs.Sizes.{InRange, hash1, hash2, words, frame_size}
+use Rattle.slot_laws.specs.Sizes.{InRange, frame_size}
 use Rattle.slot_delivery.proofs.HeadingSteps.{decided-yes, decided-no}
 use Rattle.slot_each.specs.Each.{Fitting}
 

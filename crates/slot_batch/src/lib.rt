@@ -2,6 +2,7 @@
 // Promised for every input: for each slot the four entries and the frame's place hold what `slot::unprotect` gives for that slot alone, by
 // the same definition, whatever the slots beside it are; or 1 or 2, and nothing is done. specs/Each.antt of `slot_each` says it.
 #![tactic(auto)]
+
 ghost use Rattle.std.specs.Prelude.{◌≡◌};
 ghost use Rattle.laws.specs.Decides.{Decides};
 ghost use Rattle.slot_laws.specs.Sizes.{InRange};
