@@ -3,6 +3,7 @@
 // document 02's order, which leaves the frame as lent; and what was written reads back as given, but for the residual bits that were not
 // sent (specs/Trip.antt).
 #![tactic(auto)]
+
 ghost use Rattle.std.specs.Prelude.{◌≡◌, ◌≤◌, length};
 ghost use Rattle.frame_settings.specs.Settings.{Known};
 ghost use Rattle.frame_answers.specs.Answers.{told};
