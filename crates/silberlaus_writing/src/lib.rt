@@ -1,6 +1,7 @@
 // A frame written from the fields of C's struct, with document 01's numbers. It stands over `writer`.
 // Inner: `silberlaus` stands over it. It asks nothing.
 #![tactic(auto)]
+
 ghost use Rattle.std.specs.Prelude.{◌≡◌};
 ghost use Rattle.writer.specs.Writer.{telling, answered};
 ghost use Rattle.writer.specs.Trip.{Writes};
