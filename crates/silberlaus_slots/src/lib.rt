@@ -1,6 +1,7 @@
 // Protecting and unprotecting with document 01's numbers and C's struct in place of the enum answers. It stands over `slot`.
 // Inner: `silberlaus` stands over it. It asks nothing.
 #![tactic(auto)]
+
 ghost use Rattle.std.specs.Prelude.{◌≡◌};
 ghost use Rattle.slot_protection.specs.Protect.{Protects};
 ghost use Rattle.slot.specs.Unprotect.{Recordable, Unprotects};
