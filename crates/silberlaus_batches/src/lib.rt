@@ -1,6 +1,7 @@
 // Unprotecting many slots with document 01's number in place of the enum answer. It stands over `slot_batch`.
 // Inner: `silberlaus` stands over it. It asks nothing.
 #![tactic(auto)]
+
 ghost use Rattle.slot_each.specs.Each.{five, UnprotectsEach};
 
 // Each slot's number, request and counts, and its frame in its place; or 1 or 2.
