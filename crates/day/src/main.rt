@@ -3,6 +3,7 @@
 // walks and words what happened, and the library's standard streams, of whose bytes no contract speaks. What goes wrong is said on
 // standard error.
 #![tactic(auto)]
+
 use day_page::Page;
 use day_sample::sample;
 use day_sample::sample::Surveyed;
@@ -27,13 +28,22 @@ fn main(rt: HostRuntime) {
         Surveyed::Frames(frames) => run(&rt, sample, frames),
         Surveyed::CutShort => say(&rt, b"day: the sample is cut short\n"),
         Surveyed::UnknownRate => {
-            say(&rt, b"day: the sample has a rate that is none of 8, 16, 24, 32 and 48 kHz\n")
+            say(
+                &rt,
+                b"day: the sample has a rate that is none of 8, 16, 24, 32 and 48 kHz\n",
+            )
         }
         Surveyed::UnknownDuration => {
-            say(&rt, b"day: the sample has a duration that is none of 2.5, 5, 7.5 and 10 ms\n")
+            say(
+                &rt,
+                b"day: the sample has a duration that is none of 2.5, 5, 7.5 and 10 ms\n",
+            )
         }
         Surveyed::BadLength => {
-            say(&rt, b"day: the sample has a frame that is not of 20 to 400 bytes\n")
+            say(
+                &rt,
+                b"day: the sample has a frame that is not of 20 to 400 bytes\n",
+            )
         }
     }
 }

@@ -1,6 +1,7 @@
 // What the day says: it walks the sample, words the report of the walk and lists the record. It stands over `day_way`, `day_report` and
 // `record_listing`. Inner: `day` stands over it. It asks nothing.
 #![tactic(auto)]
+
 ghost use Rattle.std.specs.Prelude.{length};
 ghost use Rattle.day_page.specs.Page.{Inside};
 

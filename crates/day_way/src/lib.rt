@@ -3,6 +3,7 @@
 // It stands over `day_writing`, `slot`, `frame` and `record`.
 // Inner: `day` stands over it. It asks nothing.
 #![tactic(auto)]
+
 ghost use Rattle.std.specs.Prelude.{◌≤◌, length};
 
 use day_report::tally::Tally;

@@ -1,6 +1,7 @@
 // The headset's end: a frame of the sample read into its fields and written anew from them. It stands over `frame` and `writer`.
 // Inner: `day_way` stands over it. It asks nothing.
 #![tactic(auto)]
+
 ghost use Rattle.std.specs.Prelude.{◌≤◌};
 
 use frame::Answer;
