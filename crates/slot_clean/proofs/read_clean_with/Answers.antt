@@ -4,7 +4,6 @@ use mathlib.Core.Path.{sym}
 use mathlib.Core.Bool.{true≢false}
 use Prim.Native.Nat.{◌-◌, ◌+◌}
 use native.Mathlib.Omega.{arith}
-use borrow.Author.Tests.{not-false}
 use Rattle.slot_laws.proofs.RoomSteps.{WordPart, word-part, start_first, next_start, before-end, end-few, room-is}
 use Rattle.slot_clean.proofs.CleanSteps.{clean-first, clean-data, clean-next}
 use Rattle.slot_clean.proofs.read_clean_with.Goals as goal
@@ -69,7 +68,7 @@ loop-i-preserved c =
       next_start part,
       clean-data c.args.places.now part c.requires.semi_octets_of.below c.read_clean_word.ensures.w_after,
       clean-next c.args.places.now part c.requires.semi_octets_of.below c.read_clean_word.ensures.w_after c.loop-i.invariant.3
-          (c.read_clean_word.ensures.clean_over (not-false c.read_clean_word.result c.if-not-read_clean_word.false-raw)),
+          (c.read_clean_word.ensures.clean_over c.if-not-read_clean_word.false),
     )
 
 pub returns : goal.returns

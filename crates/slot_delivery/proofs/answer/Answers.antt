@@ -1,17 +1,11 @@
 -- `slot_delivery::answer` meets its contract. Assumes nothing.
 use mathlib.Core.Bool.{true, false}
 use mathlib.Core.Path.{refl, ap, ◌∙◌}
-use Prim.Native.Nat.{◌*◌, ◌-◌}
-use native.Mathlib.Omega.{arith}
-use borrow.Author.Tests.{not-true, not-false}
 use Rattle.slot_laws.specs.Order.{request_swapped, Data}
 use Rattle.slot_laws.specs.Back.{request_in}
 use Rattle.slot_delivery.specs.Inner.{IsDelivered, AcceptedFrom}
 use Rattle.slot_delivery.proofs.HeadingSteps.{request-is, data-unmixed}
 use Rattle.slot_delivery.proofs.answer.Goals as goal
-
-pub overflow_cast-request : goal.overflow_cast-request
-overflow_cast-request c = omega (arith, c.slice_known-4-1.given (2 * c.first_hash_size.result - 1))
 
 pub deliver-requires : goal.deliver-requires
 deliver-requires c =
@@ -33,7 +27,7 @@ returns-then-not-deliver c =
     let a = c.args in
     let y : IsDelivered a.size a.mode (request_swapped a.size a.mode a.message.now) a.frame.now
     c.deliver.new.frame false =
-    rw (not-true c.deliver.result c.if-not-deliver.true-raw, c.swap_request.ensures) at c.deliver.ensures in
+    rw (c.if-not-deliver.true, c.swap_request.ensures) at c.deliver.ensures in
     record {
       answered = y;
       fact_2 = ordered;
@@ -46,7 +40,7 @@ returns c =
     let a = c.args in
     let y : IsDelivered a.size a.mode (request_swapped a.size a.mode a.message.now) a.frame.now
     c.deliver.new.frame true =
-    rw (not-false c.deliver.result c.if-not-deliver.false-raw, c.swap_request.ensures) at c.deliver.ensures in
+    rw (c.if-not-deliver.false, c.swap_request.ensures) at c.deliver.ensures in
     let z : AcceptedFrom a.size a.mode (request_swapped a.size a.mode a.message.now) a.count a.bits
     c.deliver.new.frame _ a.count a.bits =
     record {

@@ -6,12 +6,11 @@ use lib.ListN.{length, drop}
 use Prim.Native.Nat.{◌-◌}
 use native.Mathlib.Omega.{arith}
 use mathlib.Core.Path.{refl}
-use borrow.Author.Tests.{not-true, not-false}
 use Rattle.slot_delivery.proofs.deliver.Goals as goal
 
 pub returns-then-not-matches : goal.returns-then-not-matches
 returns-then-not-matches c =
-    record { foreign = c.matches.ensures.fails (not-true c.matches.result c.if-not-matches.true-raw); kept = refl }
+    record { foreign = c.matches.ensures.fails c.if-not-matches.true; kept = refl }
 
 pub roll-requires : goal.roll-requires
 roll-requires c =
@@ -27,9 +26,8 @@ roll-requires c =
 pub returns : goal.returns
 returns c =
     let a = c.args in
-    let e = c.if-not-matches.false-raw in
     record {
-      matching = c.matches.ensures.holds (not-false c.matches.result e);
+      matching = c.matches.ensures.holds c.if-not-matches.false;
       frame_is = delivered-frame a.size a.mode c.heading_size-heading.result a.message.now a.frame.now c.roll.new.frame
           c.requires.frame_len c.heading_size-heading.ensures.is c.roll.ensures;
     }
