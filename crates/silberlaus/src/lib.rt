@@ -3,6 +3,7 @@
 // turn the enum answers into document 01's numbers and C's structs. Each function is total, and its contract is that of the function
 // called: number by number, the values beside it, and every lent buffer.
 #![tactic(auto)]
+
 pub mod frames;
 pub mod records;
 pub mod slots;
