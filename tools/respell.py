@@ -58,7 +58,8 @@ def table(root):
     return {a: b for a, b in new.items() if a != b}
 
 
-COMMENT = {".antt": re.compile(r"--(?= |$).*", re.M), ".rt": re.compile(r"//.*"), ".edit": re.compile(r"^(?!file: |old: |new: ).*", re.M)}
+# comments; in the sources strings too, which keep every word
+COMMENT = {".antt": re.compile(r"--(?= |$).*", re.M), ".rt": re.compile(r'//.*|"(?:[^"\\\\]|\\\\.|\\\\\n)*"'), ".edit": re.compile(r"^(?!file: |old: |new: ).*", re.M)}
 
 
 def turned(text, ending, new):

@@ -37,10 +37,10 @@ fn taken(out: &mut [u8], at: usize, frames: usize, t: Tally) -> usize
         out,
         at,
         b"Frames of speech go through the air and into a record. The headset reads each frame of the sample
-into its fields, writes it anew from them and protects it in a slot, semi_octets (half bytes) of
+into its fields, writes it anew from them and protects it in a slot, semi-octets (half bytes) of
 the slot are changed on the way by a fixed rule, the receiver repairs the slot or refuses it,
 compares and reads the frame, and stores it in the record.
-A slot is made of words of 13 to 15 semi_octets; its mode says how many of each can be repaired.
+A slot is made of words of 13 to 15 semi-octets; its mode says how many of each can be repaired.
 
 The sample
   frames
@@ -74,12 +74,12 @@ fn sent(out: &mut [u8], at: usize, t: Tally) -> usize
         b"
 Slots sent, by mode
   mode 2: 1 semi-octet of each word can be repaired
-  mode 3: 2 semi_octets of each word can be repaired
-  mode 4: 3 semi_octets of each word can be repaired
+  mode 3: 2 semi-octets of each word can be repaired
+  mode 4: 3 semi-octets of each word can be repaired
 
 Slots sent, by what happens on the way
   nothing is changed
-  1 to 5 semi_octets are changed
+  1 to 5 semi-octets are changed
   as many as can be repaired are changed in every word
   one more than can be repaired is changed in every word
 ",
@@ -107,13 +107,13 @@ fn accepted(out: &mut [u8], at: usize, t: Tally) -> usize
 Slots accepted
   clean
   repaired
-  semi_octets repaired in them
+  semi-octets repaired in them
   bits repaired in them
 
 Accepted slots beside what was sent
   frames that differ
   requests that differ
-  counts of repaired semi_octets that differ from the changes made
+  counts of repaired semi-octets that differ from the changes made
   counts of repaired bits that differ from the changes made
 ",
         &numbers,
@@ -180,7 +180,7 @@ The record
   entries stored
 
 Its listing: the number of entries, then for each its place, the bytes of its frame, the request
-and the semi_octets repaired
+and the semi-octets repaired
 ",
         &numbers,
     )
