@@ -30,7 +30,8 @@ small-sums = record {
   counts = (refl, refl, refl);
   lengths = (refl, refl, refl, refl, refl, refl);
   context = refl;
-  escape = λ s level p q r e f. plane-both s 0 level _ _ p 1 q 1 r _ _ (omega arith) e f (sym (all_set-next level)) (sym (all_set-next level));
+  escape = λ s level p q r e f.
+      plane-both s 0 level _ _ p 1 q 1 r _ _ (omega arith) e f (sym (all_set-next level)) (sym (all_set-next level));
   highest = λ s look cum lsb base context p c k e. rw e refl;
   rates = (refl, refl);
   line_400 = λ s b m g h e f k l. rw e (rw (lt-leb 5 b (omega arith)) (rw f (rw k (rw l refl))));

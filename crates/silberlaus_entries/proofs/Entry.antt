@@ -119,8 +119,8 @@ module _ (form : ℕ) (f : Form) (is : which_form form ≡ which.Is f) (khz q : 
   unfolding line_count
   other-residual h k = judged ∙ other-residual-in f (setting_of khz q) s place x b h k
 
-  pub no-frame : Bytes s → (line_count khz q ≡ 0 → ⊥) → x ≡ line_count khz q → b ≡ line_count khz q → (p : List ℕ) → p ≡ frame_part form s place
-      → length p ≡ 0
+  pub no-frame : Bytes s → (line_count khz q ≡ 0 → ⊥) → x ≡ line_count khz q → b ≡ line_count khz q → (p : List ℕ)
+      → p ≡ frame_part form s place → length p ≡ 0
       → (judged_entry form khz q s place x b ≡ refused (missing form s place) 0) × (1 ≤ missing form s place)
       × (missing form s place ≡ 5 → ⊥)
   unfolding line_count
@@ -140,5 +140,6 @@ module _ (form : ℕ) (f : Form) (is : which_form form ≡ which.Is f) (khz q : 
   unfolding line_count judged_of
   part-read i h e g p t z =
       let o : p ≡ frame_in f s place = t ∙ sym (frame-in form f is s place) in
-      ap (λ (l : List ℕ). judged_at (setting_of khz q) l x b) o ∙ part_in f (setting_of khz q) s place x b i h e g (λ y. z (ap length o ∙ y))
+      ap (λ (l : List ℕ). judged_at (setting_of khz q) l x b) o
+      ∙ part_in f (setting_of khz q) s place x b i h e g (λ y. z (ap length o ∙ y))
       ∙ sym judged
