@@ -87,7 +87,7 @@ clean:
 # rt builds a program and an archive from proved crates only, and leaves them in the crate's folder out/. What it says goes to a
 # file, the crates that it has done to the reader; its status goes round the pipe.
 target/bin/%: $(RATTLE) crates/%/stdin
-	@echo 'Only proved code is run, so the library is proved first: some 20 minutes on two cores where nothing is proved yet.'
+	@echo 'Only proved code is run, so the library is proved first: some 20 minutes on four cores where nothing is proved yet.'
 	@mkdir -p target/bin
 	@cd crates/$* && { rt run 2>&1 >../../target/$*.out <stdin; echo $$? >../../target/$*.status; } | tee ../../target/$*.log \
 		| sed -un 's/^fn \([a-z0-9_]*\)::main: proved.*/    \1 proved/p'
