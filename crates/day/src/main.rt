@@ -9,7 +9,6 @@ use day_sample::sample;
 use day_sample::sample::Surveyed;
 use input::Input;
 use record::Made;
-use std::io::Write;
 
 fn main(rt: HostRuntime) {
     let mut bytes = [0u8; 65537];
@@ -50,7 +49,7 @@ fn main(rt: HostRuntime) {
 
 // Nothing is left to be done where standard error cannot be written.
 fn say(rt: &HostRuntime, text: &[u8]) {
-    let _ = rt.stderr().write_all(text);
+    output::write_all(&mut rt.stderr(), text);
 }
 
 // The walk with a new record of form 2, then what is written.
@@ -82,8 +81,8 @@ fn show(
     let Page::Texts(end, at) = page else {
         return false;
     };
-    if rt.stdout().write_all(&text[..end]).is_ok() {
-        return rt.stdout().write_all(&lines[at..]).is_ok();
+    if output::write_all(&mut rt.stdout(), &text[..end]) {
+        return output::write_all(&mut rt.stdout(), &lines[at..]);
     }
     false
 }

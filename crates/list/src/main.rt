@@ -5,7 +5,6 @@
 
 use input::Input;
 use record_listing::Listed;
-use std::io::Write;
 
 fn main(rt: HostRuntime) {
     let mut bytes = [0u8; 65537];
@@ -20,7 +19,7 @@ fn main(rt: HostRuntime) {
     let Listed::From(at) = listed else {
         return;
     };
-    if rt.stdout().write_all(&text[at..]).is_ok() {
+    if output::write_all(&mut rt.stdout(), &text[at..]) {
         return;
     }
     say(&rt, b"list: standard output cannot be written\n");
@@ -28,5 +27,5 @@ fn main(rt: HostRuntime) {
 
 // Nothing is left to be done where standard error cannot be written.
 fn say(rt: &HostRuntime, text: &[u8]) {
-    let _ = rt.stderr().write_all(text);
+    output::write_all(&mut rt.stderr(), text);
 }
