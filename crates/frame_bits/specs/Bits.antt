@@ -2,8 +2,6 @@
 -- The cursor is the number of bits read, so bit p stands in byte bp_side = length - 1 - p / 8, at bit p % 8. Assumes nothing.
 use Rattle.std.specs.Prelude.{cond, List, ℕ, zero, suc, ◌+◌, ◌-◌, ◌*◌, ◌/◌, ◌%◌, ◌^◌, ltb, leb, length, get_or}
 use Rattle.frame_bits.specs.Read.{Read, value, cause}
-use Rattle.frame_bits.specs.declared.Bit.{Bit}
-use Rattle.frame_bits.specs.declared.Bit.TheVariants as bit
 
 -- bit p of the side stream
 abbrev pub bit_of : List ℕ → ℕ → ℕ
@@ -21,7 +19,3 @@ read_bit s p = cond (ltb p (8 * length s)) (value (bit_of s p) (p + 1)) (cause 6
 -- read_uint: a field of n bits; one that is not sent has none, and is 0
 unfoldable pub read_bits : List ℕ → ℕ → ℕ → Read ℕ ℕ
 read_bits s p n = cond (leb (p + n) (8 * length s)) (value (bits_of s p n) (p + n)) (cause 6)
-
-abbrev pub bit_given : Bit → Read ℕ ℕ
-bit_given (bit.Value v p) = value v p
-bit_given bit.Outside = cause 6

@@ -6,23 +6,17 @@
 
 ghost use Rattle.std.specs.Prelude.{◌≡◌, ◌+◌, ◌*◌, ◌≤◌, ◌<◌, length};
 ghost use Rattle.frame_settings.specs.Settings.{Sized};
-ghost use Rattle.frame_bits.specs.Bits.{bit_of, read_bit, bit_given};
+ghost use Rattle.frame_bits.specs.Bits.{bit_of, read_bit};
+ghost use Rattle.frame_bits.specs.Read.{given};
 ghost use Rattle.frame_bits.specs.Sound.{GoodBit, GoodField, back_of};
 
-use widening::wide;
+use refusals::Cause;
 
-// A bit with the next cursor; or it would stand outside the frame, which is cause 6.
+// What a reading step has: a value with the next cursor.
 #[derive(Clone, Copy)]
-pub enum Bit {
-    Value(usize, usize),
-    Outside,
-}
-
-// A field's value with the next cursor.
-#[derive(Clone, Copy)]
-pub struct Field {
-    pub value: usize,
-    pub next: usize,
+pub struct Step<V, C> {
+    pub value: V,
+    pub next: C,
 }
 
 // Bit p of the side stream, which the caller knows to be inside the frame.
@@ -32,19 +26,22 @@ pub fn bit_at(s: &[u8], p: usize) -> usize
     ensures upper_bound { result < 2 }
 {
     let at = s.len() - 1 - p / 8;
-    (wide(s[at]) >> (p % 8)) % 2
+    (usize::from(s[at]) >> (p % 8)) % 2
 }
 
 // One bit of the side stream, where it lies inside the frame.
-pub fn read_bit(s: &[u8], p: usize) -> Bit
+pub fn read_bit(s: &[u8], p: usize) -> Result<Step<usize, usize>, Cause>
     requires { Sized s.now }
-    ensures result_value { bit_given result ≡ read_bit s.now p }
+    ensures result_value { given result ≡ read_bit s.now p }
     ensures good_bit { GoodBit s.now p result }
 {
     if p < 8 * s.len() {
-        Bit::Value(bit_at(s, p), p + 1)
+        Ok(Step {
+            value: bit_at(s, p),
+            next: p + 1,
+        })
     } else {
-        Bit::Outside
+        Err(Cause::Outside)
     }
 }
 
@@ -54,18 +51,21 @@ fn four_back(s: &[u8], at: usize) -> usize
     requires at_in_bounds { at < length s.now }
     ensures { result ≡ back_of s.now at 4 }
 {
-    wide(s[at]) + 256 * (wide(s[at - 1]) + 256 * (wide(s[at - 2]) + 256 * wide(s[at - 3])))
+    usize::from(s[at])
+        + 256
+            * (usize::from(s[at - 1])
+                + 256 * (usize::from(s[at - 2]) + 256 * usize::from(s[at - 3])))
 }
 
 // The field of n bits from p on: four bytes have it whole, and every frame has them there.
-pub fn read_bits(s: &[u8], p: usize, n: usize) -> Field
+pub fn read_bits(s: &[u8], p: usize, n: usize) -> Step<usize, usize>
     requires n_bound { n ≤ 25 }
     requires p_bound { p ≤ 128 }
     requires sized { Sized s.now }
     ensures { GoodField s.now p n result }
 {
     let bytes = four_back(s, s.len() - 1 - p / 8);
-    Field {
+    Step {
         value: (bytes >> (p % 8)) % (1 << n),
         next: p + n,
     }

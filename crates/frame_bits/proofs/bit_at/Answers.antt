@@ -4,6 +4,6 @@ use Rattle.frame_bits.proofs.bit_at.Goals as goal
 
 pub returns : goal.returns
 returns c = record {
-  value = rw c.wide.ensures.value;
+  value = rw c.from.ensures;
   upper_bound = omega arith;
 }

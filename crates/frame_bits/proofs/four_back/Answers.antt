@@ -4,4 +4,4 @@ use Rattle.frame_bits.proofs.four_back.Goals as goal
 
 pub returns : goal.returns
 returns c =
-    four-joined _ _ _ _ _ _ c.wide.ensures.value c.wide-2.ensures.value c.wide-3.ensures.value c.wide-4.ensures.value
+    four-joined _ _ _ _ _ _ c.from.ensures c.from-2.ensures c.from-3.ensures c.from-4.ensures

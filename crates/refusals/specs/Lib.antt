@@ -1,0 +1,2 @@
+-- The numbers of refusals and of causes (Numbers).
+pub mod Numbers
