@@ -82,8 +82,8 @@ impl Refusal {
 impl From<Cause> for Refusal {
     ghost from_gives = { λ why refusal. refusal ≡ BitError why };
 
-    fn from(why: Cause) -> Refusal {
-        Refusal::BitError(why)
+    fn from(cause: Cause) -> Refusal {
+        Refusal::BitError(cause)
     }
 }
 
