@@ -1,10 +1,10 @@
 -- What the reader of a frame answers: document 01's number, the cause, and the values. Assumes nothing.
-use Rattle.std.specs.Prelude.{List, ℕ}
+use Rattle.std.specs.Prelude.{List, ℕ, Result, Ok, Err}
+use Rattle.refusals.specs.declared.Refusal.{Refusal}
+use Rattle.refusals.specs.Numbers.{refusal_number, refusal_cause}
 use Rattle.frame_tns.specs.Tns.{unused}
 use Rattle.frame_answers.specs.declared.Fields.{Fields}
 use Rattle.frame_answers.specs.declared.Reading.{Reading}
-use Rattle.frame_answers.specs.declared.Answer.{Answer}
-use Rattle.frame_answers.specs.declared.Answer.TheVariants as answer
 
 -- document 01's number, the cause, and what goes with them
 pub record Given : Type 0 where
@@ -32,12 +32,8 @@ no_fields = record {
 abbrev pub refused_with : ℕ → ℕ → Given
 refused_with number why = record { number = number; cause = why; fields = no_fields; first = unused; second = unused }
 
--- document 01's number, cause and values for each case of the answer
-abbrev pub answered : Answer → List ℕ → List ℕ → Given
-answered (answer.Read f) first second = record { number = 0; cause = 0; fields = f; first = first; second = second }
-answered answer.Setting first second = record { number = 1; cause = 0; fields = no_fields; first = first; second = second }
-answered answer.Length first second = record { number = 2; cause = 0; fields = no_fields; first = first; second = second }
-answered (answer.BitError k) first second = record { number = 5; cause = k; fields = no_fields; first = first; second = second }
-
-abbrev pub told : Reading → Given
-told r = answered r.answer r.tns_coefficients_0 r.tns_coefficients_1
+-- document 01's number, cause and values of an answer
+abbrev pub told : Result Reading Refusal → Given
+told (Ok r) =
+    record { number = 0; cause = 0; fields = r.fields; first = r.tns_coefficients_0; second = r.tns_coefficients_1 }
+told (Err why) = refused_with (refusal_number why) (refusal_cause why)
