@@ -2,17 +2,17 @@
 -- Assumes nothing.
 use mathlib.Core.Path.{◌≡◌, refl}
 use mathlib.Core.Bool.{Bool, true, false, cond}
-use mathlib.Core.Option.{Option, none, some}
+use Rattle.std.specs.Prelude.{Option, None, Some}
 use mathlib.Core.List.{List, [], ◌∷◌}
 use Prim.Native.Nat.{ℕ, ◌<◌, ◌≤◌}
 use native.Mathlib.Omega.{arith}
 use lib.Dec.{ltb, eqb}
 use borrow.Author.Tests.{lt-leb}
-use Rattle.frame_settings.specs.Settings.{Rate, rates, durations, setting, rate_in, listed, setting_for, setting_of}
+use Rattle.frame_settings.specs.Settings.{rates, durations, setting, rate_in, listed, setting_for, setting_of}
 use Rattle.frame_settings.specs.Settings.{last_cause, last_cause_of}
+use Rattle.frame_settings.specs.declared.Rate.{Rate}
+use Rattle.frame_settings.specs.declared.Setting.{Setting}
 use Rattle.frame_settings.specs.TenMs.{Row, setting_in, TenMs}
-use Rattle.frame_settings.specs.declared.Settled.{Settled}
-use Rattle.frame_settings.specs.declared.Settled.TheVariants as settled
 
 -- ---- document 01's table
 
@@ -21,8 +21,8 @@ rows : List Rate → List Row
 rows [] = []
 rows (x ∷ xs) = record { khz = x.khz; given = setting x 40 } ∷ rows xs
 
-row_first : (x : Rate) (b : Bool) (o : Option Rate) (s : Settled) → setting_for o 40 ≡ s
-    → setting_for (cond b (some x) o) 40 ≡ cond b (settled.Known (setting x 40)) s
+row_first : (x : Rate) (b : Bool) (o : Option Rate) (s : Option Setting) → setting_for o 40 ≡ s
+    → setting_for (cond b (Some x) o) 40 ≡ cond b (Some (setting x 40)) s
 row_first x true o s e = refl
 row_first x false o s e = e
 
@@ -46,10 +46,10 @@ least-causes order = go (ltb order 8)
 
 seven-for : (o : Option Rate) (q : ℕ) → 20 < q → last_cause_of (setting_for o q) ≡ 7
 unfolding last_cause_of
-seven-for none q h = refl
-seven-for (some x) q h = go (listed durations q)
+seven-for None q h = refl
+seven-for (Some x) q h = go (listed durations q)
   where
-    go : (b : Bool) → last_cause_of (cond b (settled.Known (setting x q)) settled.Unknown) ≡ 7
+    go : (b : Bool) → last_cause_of (cond b (Some (setting x q)) None) ≡ 7
     go true = rw (lt-leb q 20 h)
     go false = refl
 

@@ -1,19 +1,11 @@
 -- The settings of a frame (document 01, "Reading a frame"; request 02 §3): what the rate and the duration give, and how long a frame may
 -- be. The duration is counted in quarter milliseconds. Assumes nothing.
-use Rattle.std.specs.Prelude.{◌≡◌, Bool, true, false, cond, List, [], ◌∷◌, ℕ, zero, suc, ◌+◌, ◌-◌, ◌*◌, ◌/◌, ◌^◌, ◌≤◌, ltb, leb, eqb, length}
-use Rattle.std.proofs.Math.Option.{Option, none, some}
+use Rattle.std.specs.Prelude.{◌≡◌, Bool, true, false, cond, Option, None, Some, List, [], ◌∷◌, ℕ, zero, suc, ◌+◌, ◌-◌, ◌*◌, ◌/◌, ◌^◌}
+use Rattle.std.specs.Prelude.{◌≤◌, ltb, leb, eqb, length}
+use Rattle.frame_settings.specs.declared.Rate.{Rate}
 use Rattle.frame_settings.specs.declared.Setting.{Setting}
-use Rattle.frame_settings.specs.declared.Settled.{Settled}
-use Rattle.frame_settings.specs.declared.Settled.TheVariants as settled
-use Rattle.frame_settings.specs.declared.Rated.{Rated}
-use Rattle.frame_settings.specs.declared.Rated.TheVariants as rated
 
 -- a rate: kHz, "index" (formula 1), and the bits of the bandwidth (Table 5.21)
-pub record Rate : Type 0 where
-  pub khz : ℕ
-  pub index : ℕ
-  pub bandwidth : ℕ
-
 abbrev pub rate : ℕ → ℕ → ℕ → Rate
 rate khz index bandwidth = record { khz = khz; index = index; bandwidth = bandwidth }
 
@@ -50,8 +42,8 @@ setting r q = record {
 
 -- the rate of so many kHz in such a table
 abbrev pub rate_in : List Rate → ℕ → Option Rate
-rate_in [] khz = none
-rate_in (x ∷ xs) khz = cond (eqb khz x.khz) (some x) (rate_in xs khz)
+rate_in [] khz = None
+rate_in (x ∷ xs) khz = cond (eqb khz x.khz) (Some x) (rate_in xs khz)
 
 -- q is one of the list
 abbrev pub listed : List ℕ → ℕ → Bool
@@ -59,23 +51,18 @@ listed [] q = false
 listed (x ∷ xs) q = cond (eqb q x) true (listed xs q)
 
 -- of a rate that was found or not, and a duration
-abbrev pub setting_for : Option Rate → ℕ → Settled
-setting_for none q = settled.Unknown
-setting_for (some x) q = cond (listed durations q) (settled.Known (setting x q)) settled.Unknown
+abbrev pub setting_for : Option Rate → ℕ → Option Setting
+setting_for None q = None
+setting_for (Some x) q = cond (listed durations q) (Some (setting x q)) None
 
 -- the setting of a rate and a duration; none where one of them is out of range
-unfoldable pub setting_of : ℕ → ℕ → Settled
+unfoldable pub setting_of : ℕ → ℕ → Option Setting
 setting_of khz q = setting_for (rate_in rates khz) q
 
--- the answer of the table of rates
-abbrev pub rate_given : ℕ → Rated → Option Rate
-rate_given khz (rated.Rate index bandwidth) = some (rate khz index bandwidth)
-rate_given khz rated.NoRate = none
-
 -- NE; 0 where there is no setting
-abbrev pub lines_at : Settled → ℕ
-lines_at (settled.Known r) = r.lines
-lines_at settled.Unknown = 0
+abbrev pub lines_at : Option Setting → ℕ
+lines_at (Some r) = r.lines
+lines_at None = 0
 
 unfoldable pub line_count : ℕ → ℕ → ℕ
 line_count khz q = lines_at (setting_of khz q)
@@ -109,9 +96,9 @@ rate_offset index bytes = cond (ltb (160 + 160 * index) (8 * bytes)) 512 0
 abbrev pub last_cause : ℕ → ℕ
 last_cause order = cond (ltb order 8) 8 7
 
-unfoldable pub last_cause_of : Settled → ℕ
-last_cause_of (settled.Known r) = last_cause (order_of r.duration)
-last_cause_of settled.Unknown = 7
+unfoldable pub last_cause_of : Option Setting → ℕ
+last_cause_of (Some r) = last_cause (order_of r.duration)
+last_cause_of None = 7
 
 -- what the reader uses of a setting
 pub record Known (r : Setting) : Type 0 where
@@ -122,6 +109,6 @@ pub record Known (r : Setting) : Type 0 where
   pub pair : r.pair ≤ 8
   pub duration : r.duration ≤ 40
 
-abbrev pub KnownSetting : Settled → Type 0
-KnownSetting (settled.Known r) = Known r
-KnownSetting settled.Unknown = Unit {0}
+abbrev pub KnownSetting : Option Setting → Type 0
+KnownSetting (Some r) = Known r
+KnownSetting None = Unit {0}

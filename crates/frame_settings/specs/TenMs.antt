@@ -1,10 +1,8 @@
 -- The settings of 10 ms as document 01 has them ("Reading a frame"): its table, and the numbers in its text. proofs/TenMs.antt shows that
 -- they are the 10 ms part of the settings. Assumes nothing.
-use Rattle.std.specs.Prelude.{◌≡◌, cond, List, [], ◌∷◌, ℕ, ◌*◌, ltb, eqb}
+use Rattle.std.specs.Prelude.{◌≡◌, cond, Option, None, Some, List, [], ◌∷◌, ℕ, ◌*◌, ltb, eqb}
 use Rattle.frame_settings.specs.Settings.{setting_of, filters_of, order_of, weighting}
 use Rattle.frame_settings.specs.declared.Setting.{Setting}
-use Rattle.frame_settings.specs.declared.Settled.{Settled}
-use Rattle.frame_settings.specs.declared.Settled.TheVariants as settled
 
 -- a row of document 01's table: a rate, and its setting
 pub record Row : Type 0 where
@@ -20,9 +18,9 @@ abbrev pub table : List Row
 table = row 8 0 80 0 6 ∷ row 16 1 160 1 7 ∷ row 24 2 240 2 7 ∷ row 32 3 320 2 8 ∷ row 48 4 400 3 8 ∷ []
 
 -- the setting of a rate in such a table
-abbrev pub setting_in : List Row → ℕ → Settled
-setting_in [] khz = settled.Unknown
-setting_in (x ∷ xs) khz = cond (eqb khz x.khz) (settled.Known x.given) (setting_in xs khz)
+abbrev pub setting_in : List Row → ℕ → Option Setting
+setting_in [] khz = None
+setting_in (x ∷ xs) khz = cond (eqb khz x.khz) (Some x.given) (setting_in xs khz)
 
 pub record TenMs : Type 0 where
   -- the table, for every rate, known or not

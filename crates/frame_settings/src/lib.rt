@@ -5,9 +5,8 @@
 #![tactic(auto)]
 
 ghost use Rattle.std.specs.Prelude.{◌≡◌, ◌≤◌, ◌<◌};
-ghost use Rattle.frame_settings.specs.Settings.{durations, lines_of, listed, pair_bits, rate, rates, rate_in, rate_given};
-ghost use Rattle.frame_settings.specs.Settings.{setting, setting_of, KnownSetting, filters_of, order_of, line_count, rate_offset};
-ghost use Rattle.frame_settings.specs.Settings.{weighting};
+ghost use Rattle.frame_settings.specs.Settings.{durations, lines_of, listed, pair_bits, rates, rate_in, setting, setting_of};
+ghost use Rattle.frame_settings.specs.Settings.{KnownSetting, filters_of, order_of, line_count, rate_offset, weighting};
 
 // The rate's index, the line count NE, the bits of the fields bandwidth and last pair, and the duration.
 #[derive(Clone, Copy)]
@@ -19,42 +18,38 @@ pub struct Setting {
     pub duration: usize,
 }
 
-// What a rate and a duration settle.
+// A rate: kHz, its index, and the bits of the bandwidth.
 #[derive(Clone, Copy)]
-pub enum Settled {
-    Known(Setting),
-    Unknown,
-}
-
-// A rate's index and the bits of its bandwidth.
-#[derive(Clone, Copy)]
-pub enum Rated {
-    Rate(usize, usize),
-    NoRate,
+pub struct Rate {
+    pub khz: usize,
+    pub index: usize,
+    pub bandwidth: usize,
 }
 
 // The rate of the table that has so many kHz.
-fn rate_of(khz: u32) -> Rated
-    ensures { rate_given khz result ≡ rate_in rates khz }
+fn rate_of(khz: u32) -> Option<Rate>
+    ensures { result ≡ rate_in rates khz }
 {
-    match khz {
-        8 => Rated::Rate(0, 0),
-        16 => Rated::Rate(1, 1),
-        24 => Rated::Rate(2, 2),
-        32 => Rated::Rate(3, 2),
-        48 => Rated::Rate(4, 3),
-        _ => Rated::NoRate,
-    }
+    let (index, bandwidth) = match khz {
+        8 => (0, 0),
+        16 => (1, 1),
+        24 => (2, 2),
+        32 => (3, 2),
+        48 => (4, 3),
+        _ => return None,
+    };
+    Some(Rate {
+        khz: khz as usize,
+        index,
+        bandwidth,
+    })
 }
 
 // Whether it is one of the four durations.
 fn is_duration(duration: u32) -> bool
     ensures { result ≡ listed durations duration }
 {
-    match duration {
-        10 | 20 | 30 | 40 => true,
-        _ => false,
-    }
+    matches!(duration, 10 | 20 | 30 | 40)
 }
 
 // The bits of the last pair, by half of the lines.
@@ -86,35 +81,33 @@ fn lines_of(khz: usize, duration: usize) -> usize
     }
 }
 
-// The setting of a rate, whose index and bandwidth's bits are named, and a duration.
-fn known(khz: usize, index: usize, bandwidth: usize, duration: usize) -> Setting
-    requires le_khz { (8 ≤ khz) × (khz ≤ 48) }
+// The setting of a rate and a duration, both of the tables.
+fn known(rate: Rate, duration: usize) -> Setting
+    requires le_khz { (8 ≤ rate.khz) × (rate.khz ≤ 48) }
     requires le_duration { (10 ≤ duration) × (duration ≤ 40) }
-    ensures { result ≡ setting (rate khz index bandwidth) duration }
+    ensures { result ≡ setting rate duration }
 {
-    let lines = lines_of(khz, duration);
+    let lines = lines_of(rate.khz, duration);
     Setting {
-        index,
+        index: rate.index,
         lines,
-        bandwidth,
+        bandwidth: rate.bandwidth,
         pair: pair_bits(lines / 2),
         duration,
     }
 }
 
 // The setting of a rate and a duration.
-pub fn setting_of(khz: u32, duration: u32) -> Settled
+pub fn setting_of(khz: u32, duration: u32) -> Option<Setting>
     ensures value { result ≡ setting_of khz duration }
     ensures known_setting { KnownSetting result }
 {
-    let rate = rate_of(khz);
-    let Rated::Rate(index, bandwidth) = rate else {
-        return Settled::Unknown;
-    };
+    let rate = rate_of(khz)?;
     if is_duration(duration) {
-        return Settled::Known(known(khz as usize, index, bandwidth, duration as usize));
+        Some(known(rate, duration as usize))
+    } else {
+        None
     }
-    Settled::Unknown
 }
 
 // The TNS filters at bandwidth 3 and 4.
@@ -160,9 +153,8 @@ pub fn rate_offset(index: usize, bytes: usize) -> usize
 pub fn line_count(khz: u32, duration: u32) -> usize
     ensures { result ≡ line_count khz duration }
 {
-    let settled = setting_of(khz, duration);
-    match settled {
-        Settled::Known(r) => r.lines,
-        Settled::Unknown => 0,
+    match setting_of(khz, duration) {
+        Some(r) => r.lines,
+        None => 0,
     }
 }

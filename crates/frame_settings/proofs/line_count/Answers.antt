@@ -1,12 +1,12 @@
 -- `frame_settings::line_count` meets its contract. Assumes nothing.
-use mathlib.Core.Path.{sym, ap, ◌∙◌}
+use mathlib.Core.Path.{ap}
 use Rattle.frame_settings.specs.Settings.{line_count, lines_at}
 use Rattle.frame_settings.proofs.line_count.Goals as goal
 
-pub returns-in-Known : goal.returns-in-Known
+pub returns-in-Some : goal.returns-in-Some
 unfolding line_count
-returns-in-Known c = sym (ap lines_at (sym c.setting_of-settled.ensures.value ∙ c.in-Known.is))
+returns-in-Some c = ap lines_at c.in-Some.ensures.value
 
-pub returns-in-Unknown : goal.returns-in-Unknown
+pub returns-in-None : goal.returns-in-None
 unfolding line_count
-returns-in-Unknown c = sym (ap lines_at (sym c.setting_of-settled.ensures.value ∙ c.in-Unknown.is))
+returns-in-None c = ap lines_at c.in-None.ensures.value
