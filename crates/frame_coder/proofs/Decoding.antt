@@ -3,21 +3,22 @@
 use mathlib.Core.Path.{◌≡◌, refl, sym, ap, subst, ◌∙◌}
 use mathlib.Core.Bool.{Bool, true, false}
 use mathlib.Core.List.{List}
-use Prim.Native.Nat.{ℕ, zero, suc, ◌+◌, ◌-◌, ◌*◌, ◌/◌, ◌%◌, ◌≤◌, ◌<◌}
+use Prim.Native.Nat.{ℕ, zero, suc, ◌+◌, ◌-◌, ◌*◌, ◌/◌, ◌≤◌, ◌<◌}
 use native.Mathlib.Omega.{arith}
-use native.Mathlib.Nat.{add-zero, le_of_eq, le_trans, mul-le-mul, mul-le-mul_left, mul-sub, mul-zero}
+use native.Mathlib.Nat.{le_of_eq, le_trans, mul-le-mul, mul-le-mul_left, mul-sub}
 use lib.Dec.{eqb}
 use lib.ListN.{length, get_or}
 use borrow.Author.Tests.{lt-ltb, le-ltb, le-leb, lt-leb, eqb-true, eqb-false}
 use Rattle.coder_tables.specs.Rows.{Row}
 use Rattle.coder_tables.proofs.Rules.{row_below}
 use Rattle.frame_bits.specs.Read.{value, cause}
-use Rattle.frame_coder.specs.Symbol.{largest, refill_of, taken_of, symbol_of}
+use Rattle.frame_coder.specs.Symbol.{largest, refill_of, fed_of, taken_of, symbol_of}
 use Rattle.frame_coder.specs.Sound.{Sound, Scaled, Narrow, Refilled, GoodSymbol}
 use Rattle.frame_coder.specs.declared.Coder.{Coder}
 use Rattle.frame_coder.specs.declared.Found.{Found}
-use Rattle.frame_coder.specs.declared.Symbol.{Symbol}
-use Rattle.frame_coder.specs.declared.Symbol.TheVariants as symbol
+use Rattle.frame_bits.specs.declared.Step.{Step}
+use Rattle.refusals.specs.declared.Cause.{Cause}
+use Rattle.std.specs.Prelude.{Result, Ok, Err}
 
 -- ---- the symbol found
 
@@ -25,25 +26,6 @@ rises-on : {cum : List ℕ} {row last : ℕ} → Row cum row last → (v n w : �
     → get_or cum (row + v) 0 ≤ get_or cum (row + w) 0
 rises-on {cum} {row} r v zero w e h = let p : v ≡ w = omega arith in le_of_eq (ap (λ (k : ℕ). get_or cum (row + k) 0) p)
 rises-on r v (suc n) w e h = let a = r.rises v (omega arith) in let b = rises-on r (v + 1) n w (omega arith) h in omega arith
-
--- the first symbol's scaled frequency is 0
-pub first-scaled : {cum : List ℕ} {row last : ℕ} → Row cum row last → (t : ℕ) → 0 ≡ t * get_or cum (row + 0) 0
-first-scaled {cum} {row} r t =
-    let e : get_or cum (row + 0) 0 ≡ 0 = ap (λ (k : ℕ). get_or cum k 0) (add-zero row) ∙ r.first in
-    sym (ap (λ (k : ℕ). t * k) e ∙ mul-zero t)
-
--- where low is not below the next entry, that is not the row's end
-pub not_last : {cum : List ℕ} {row last : ℕ} → Row cum row last → (t low v : ℕ) → v ≤ last → low < t * 1024
-    → t * get_or cum (row + (v + 1)) 0 ≤ low → v < last
-not_last {cum} {row} {last} r t low v h k p = go (eqb v last) refl
-  where
-    go : (b : Bool) → eqb v last ≡ b → v < last
-    go true e =
-        let s : v ≡ last = eqb-true v last e in
-        let f : get_or cum (row + (v + 1)) 0 ≡ 1024 = ap (λ (k : ℕ). get_or cum (row + (k + 1)) 0) s ∙ r.full in
-        let z : t * get_or cum (row + (v + 1)) 0 ≡ t * 1024 = ap (λ (k : ℕ). t * k) f in
-        absurd (omega arith)
-    go false e = let d : (v ≡ last → ⊥) = eqb-false v last e in omega arith
 
 -- the last symbol is the largest, or the largest of those before it is
 largest-next : {cum : List ℕ} {row last : ℕ} (t low v n : ℕ) → Row cum row last → t * get_or cum (row + v) 0 ≤ low → v ≤ suc n
@@ -72,23 +54,11 @@ largest-is t low v (suc n) r h p q up =
 
 -- ---- the stream narrowed
 
--- a scaled entry is far below 2^64
-pub scaled : (t a : ℕ) → t < 16384 → a < 65536 → t * a ≤ 16384 * 65536
-scaled t a h k = let p : t ≤ 16384 = omega arith in let q : a ≤ 65536 = omega arith in mul-le-mul p q
-
 cut-some : (t a b : ℕ) → 64 ≤ t → a < b → 64 ≤ t * (b - a)
 cut-some t a b h k = let o : 1 ≤ b - a = omega arith in mul-le-mul h o
 
 cut_most : (t a b r : ℕ) → t * 1024 ≤ r → b ≤ 1024 → t * (b - a) ≤ r
 cut_most t a b r h k = let o : b - a ≤ 1024 = omega arith in le_trans (mul-le-mul_left t o) h
-
-pub scaled-rise : {cum : List ℕ} {row t low last : ℕ} {f : Found} → Row cum row last → Scaled cum row t low last f → f.below ≤ f.above
-scaled-rise {cum} {row} {t} {low} {last} {f} r k =
-    let a : ℕ = get_or cum (row + f.symbol) 0 in
-    let b : ℕ = get_or cum (row + (f.symbol + 1)) 0 in
-    let u : a < b = r.rises f.symbol k.symbol in
-    let p : a ≤ b = omega arith in
-    rw (k.below, k.above) (mul-le-mul_left t p)
 
 pub narrow : {s cum : List ℕ} {row last low : ℕ} {c : Coder} (f : Found) → Row cum row last → Sound s c
     → Scaled cum row (c.range / 1024) low last f
@@ -108,28 +78,22 @@ narrow {s} {cum} {row} {last} {low} {c} f r g k =
 
 -- ---- each way through the refill: the range wide again, no byte left, a byte more
 
-pub refill-wide : (s : List ℕ) (v : ℕ) (c : Coder) (n : ℕ) → 0 < n → 65536 ≤ c.range → refill_of s n v c ≡ value v c
+pub refill-wide : (s : List ℕ) (n v : ℕ) (c : Coder) → 65536 ≤ c.range → refill_of s n v c ≡ value v c
 unfolding refill_of
-refill-wide s v c zero h e = absurd (omega arith)
-refill-wide s v c (suc n) h e = simp (le-ltb c.range 65536 e)
+refill-wide s zero v c h = refl
+refill-wide s (suc n) v c h = simp (le-ltb c.range 65536 h)
 
-pub refill-out : (s : List ℕ) (v : ℕ) (c : Coder) (n : ℕ) → 0 < n → c.range < 65536 → length s ≤ c.at → refill_of s n v c ≡ cause 6
+pub refill-out : (s : List ℕ) (n v : ℕ) (c : Coder) → 0 < n → c.range < 65536 → length s ≤ c.at → refill_of s n v c ≡ cause 6
 unfolding refill_of
-refill-out s v c zero h e f = absurd (omega arith)
-refill-out s v c (suc n) h e f = simp (lt-ltb c.range 65536 e, le-ltb c.at (length s) f)
+refill-out s zero v c h e f = absurd (omega arith)
+refill-out s (suc n) v c h e f = simp (lt-ltb c.range 65536 e, le-ltb c.at (length s) f)
 
-pub refill-more : (s : List ℕ) (v low range at taken n b : ℕ) → b ≡ get_or s at 0 → 0 < n → range < 65536 → at < length s
-    → refill_of s (n - 1) v (record { low = low * 256 % 16777216 + b; range = range * 256; at = at + 1; taken = taken })
-    ≡ refill_of s n v (record { low = low; range = range; at = at; taken = taken })
+pub refill-more : (s : List ℕ) (n m v : ℕ) (c : Coder) → n ≡ m + 1 → c.range < 65536 → c.at < length s
+    → refill_of s m v (fed_of s c) ≡ refill_of s n v c
 unfolding refill_of
-refill-more s v low range at taken zero b e h f k = absurd (omega arith)
-refill-more s v low range at taken (suc n) b e h f k =
-    let p : suc n - 1 ≡ n = omega arith in simp (p, lt-ltb range 65536 f, lt-ltb at (length s) k, e)
-
-pub refill-done : (s : List ℕ) (v : ℕ) (c : Coder) (n : ℕ) → n ≤ 0 → refill_of s n v c ≡ value v c
-unfolding refill_of
-refill-done s v c zero h = refl
-refill-done s v c (suc n) h = absurd (omega arith)
+refill-more s zero m v c h e f = absurd (omega arith)
+refill-more s (suc n) m v c h e f =
+    let p : m ≡ n = omega arith in rw (p, lt-ltb c.range 65536 e, lt-ltb c.at (length s) f)
 
 -- ---- a symbol
 
@@ -148,7 +112,7 @@ symbol-taken s cum row last low f c h e k =
     rw (lt-leb (t * 1024) c.low h, ← e, d, ← k.below, ← k.above)
 
 -- what the refill promises is what a symbol has to
-pub good-symbol : (s : List ℕ) (last v : ℕ) (c d : Coder) (r : Symbol) → v ≤ last → d.taken ≡ c.taken + 1 → Refilled s v d r
-    → GoodSymbol s last c r
-good-symbol s last v c d (symbol.Value w e) h t g = let p = g.0 in (omega arith, g.1 ∙ t, g.2)
-good-symbol s last v c d (symbol.Cause k) h t g = (omega arith, omega arith)
+pub good-symbol : (s : List ℕ) (last v : ℕ) (c d : Coder) (r : Result (Step ℕ Coder) Cause) → v ≤ last → d.taken ≡ c.taken + 1
+    → Refilled s v d r → GoodSymbol s last c r
+good-symbol s last v c d (Ok symbol) h t g = let p = g.0 in (omega arith, g.1 ∙ t, g.2)
+good-symbol s last v c d (Err why) h t g = (omega arith, omega arith)

@@ -1,12 +1,13 @@
 -- What the reader's own steps promise each other beside their definitions: bounds of what is read, and cursors that stay inside.
 -- No public promise but `Bounded` of `frame` rests on a line of this. Assumes nothing.
-use Rattle.std.specs.Prelude.{◌≡◌, List, ℕ, ◌+◌, ◌*◌, ◌<◌, ◌≤◌, length, get_or}
+use Rattle.std.specs.Prelude.{◌≡◌, Result, Ok, Err, List, ℕ, ◌+◌, ◌*◌, ◌<◌, ◌≤◌, length, get_or}
 use Rattle.coder_tables.specs.Rows.{Row}
 use Rattle.frame_settings.specs.Settings.{Sized}
 use Rattle.frame_coder.specs.declared.Coder.{Coder}
 use Rattle.frame_coder.specs.declared.Found.{Found}
-use Rattle.frame_coder.specs.declared.Symbol.{Symbol}
-use Rattle.frame_coder.specs.declared.Symbol.TheVariants as symbol
+use Rattle.frame_bits.specs.declared.Step.{Step}
+use Rattle.refusals.specs.declared.Cause.{Cause}
+use Rattle.refusals.specs.Numbers.{cause_number}
 
 -- a cursor inside the frame whose range is not below `least`
 pub record Within (least : ℕ) (s : List ℕ) (c : Coder) : Type 0 where
@@ -43,11 +44,11 @@ pub record Scaled (cum : List ℕ) (row t low last : ℕ) (f : Found) : Type 0 w
   pub above : f.above ≡ t * get_or cum (row + (f.symbol + 1)) 0
   pub under : f.below ≤ low
 
-abbrev pub Refilled : List ℕ → ℕ → Coder → Symbol → Type 0
-Refilled s v c (symbol.Value w d) = (w ≡ v) × (d.taken ≡ c.taken) × Sound s d
-Refilled s v c (symbol.Cause k) = k ≡ 6
+abbrev pub Refilled : List ℕ → ℕ → Coder → Result (Step ℕ Coder) Cause → Type 0
+Refilled s v c (Ok symbol) = (symbol.value ≡ v) × (symbol.next.taken ≡ c.taken) × Sound s symbol.next
+Refilled s v c (Err why) = cause_number why ≡ 6
 
 -- a symbol 0 .. last, which counts one
-abbrev pub GoodSymbol : List ℕ → ℕ → Coder → Symbol → Type 0
-GoodSymbol s last c (symbol.Value v d) = (v ≤ last) × (d.taken ≡ c.taken + 1) × Sound s d
-GoodSymbol s last c (symbol.Cause k) = (4 ≤ k) × (k ≤ 6)
+abbrev pub GoodSymbol : List ℕ → ℕ → Coder → Result (Step ℕ Coder) Cause → Type 0
+GoodSymbol s last c (Ok symbol) = (symbol.value ≤ last) × (symbol.next.taken ≡ c.taken + 1) × Sound s symbol.next
+GoodSymbol s last c (Err why) = (4 ≤ cause_number why) × (cause_number why ≤ 6)

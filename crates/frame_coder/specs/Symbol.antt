@@ -3,8 +3,6 @@
 use Rattle.std.specs.Prelude.{cond, List, ℕ, zero, suc, ◌+◌, ◌-◌, ◌*◌, ◌/◌, ◌%◌, ltb, leb, length, get_or}
 use Rattle.frame_bits.specs.Read.{Read, value, cause}
 use Rattle.frame_coder.specs.declared.Coder.{Coder}
-use Rattle.frame_coder.specs.declared.Symbol.{Symbol}
-use Rattle.frame_coder.specs.declared.Symbol.TheVariants as symbol
 
 -- ac_dec_init: three bytes, most significant first; `at` is bp, and no symbol was taken
 abbrev pub start_of : List ℕ → Coder
@@ -45,7 +43,3 @@ unfoldable pub symbol_of : List ℕ → List ℕ → ℕ → ℕ → Coder → R
 symbol_of s cum row last c =
     cond (leb (c.range / 1024 * 1024) c.low) (cause 4)
     (taken_of s cum row (c.range / 1024) (largest cum row (c.range / 1024) c.low last) c)
-
-abbrev pub symbol_given : Symbol → Read Coder ℕ
-symbol_given (symbol.Value v c) = value v c
-symbol_given (symbol.Cause k) = cause k

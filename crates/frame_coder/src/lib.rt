@@ -1,15 +1,17 @@
 // The arithmetic stream (5.4.2.9): three bytes first, then symbols of rows of cumulative frequencies. Each function equals its definition
 // in specs/Symbol.antt, and no byte outside the frame is taken.
-// Inner: `frame_tns`, `frame_pair` and those over them stand over it, `writer_stream` over `entry`. It asks for a frame of 20 to 400 bytes,
+// Inner: `frame_tns`, `frame_pair` and those over them stand over it, `writer_stream` over its definitions. It asks for a frame of 20 to 400 bytes,
 // for a row that rises from 0 to 1,024, and for a cursor that it gave itself (`Sound`).
 #![tactic(auto)]
 
 ghost use Rattle.std.specs.Prelude.{◌≡◌, ◌+◌, ◌*◌, ◌<◌};
 ghost use Rattle.frame_settings.specs.Settings.{Sized};
-ghost use Rattle.frame_coder.specs.Symbol.{start_of, largest, refill_of, symbol_of, symbol_given};
+ghost use Rattle.frame_bits.specs.Read.{given};
+ghost use Rattle.frame_coder.specs.Symbol.{start_of, largest, refill_of, symbol_of};
 ghost use Rattle.frame_coder.specs.Sound.{Sound, Ready, SymbolRow, Scaled, Narrow, Refilled, GoodSymbol};
 
-use widening::wide;
+use frame_bits::Step;
+use refusals::Cause;
 
 // The clause's low and range; `at` is its bp, and `taken` the number of symbols taken whole.
 #[derive(Clone, Copy)]
@@ -20,20 +22,6 @@ pub struct Coder {
     pub taken: usize,
 }
 
-// A symbol with the next cursor, or the cause of a bit error.
-#[derive(Clone, Copy)]
-pub enum Symbol {
-    Value(usize, Coder),
-    Cause(u8),
-}
-
-pub fn entry(x: u16) -> usize
-    ensures value { result ≡ x }
-    ensures upper_bound { result < 65536 }
-{
-    x as usize
-}
-
 // The coder at the first three bytes of the stream.
 pub fn start(s: &[u8]) -> Coder
     requires { Sized s.now }
@@ -41,7 +29,7 @@ pub fn start(s: &[u8]) -> Coder
     ensures sound { Sound s.now result }
 {
     Coder {
-        low: (wide(s[0]) * 256 + wide(s[1])) * 256 + wide(s[2]),
+        low: (usize::from(s[0]) * 256 + usize::from(s[1])) * 256 + usize::from(s[2]),
         range: 16777215,
         at: 3,
         taken: 0,
@@ -66,11 +54,12 @@ fn find(cum: &[u16], row: usize, t: usize, low: usize, last: usize) -> Found
 {
     let mut v = 0;
     let mut below = 0;
-    let mut above = t * entry(cum[row + 1]);
+    let mut above = t * usize::from(cum[row + 1]);
     while above <= low {
+        prove!(v < last);
         v = v + 1;
         below = above;
-        above = t * entry(cum[row + (v + 1)]);
+        above = t * usize::from(cum[row + (v + 1)]);
     }
     Found {
         symbol: v,
@@ -80,60 +69,42 @@ fn find(cum: &[u16], row: usize, t: usize, low: usize, last: usize) -> Found
 }
 
 // Bytes are taken until the range is wide again.
-fn refill(s: &[u8], v: usize, c: Coder) -> Symbol
+fn refill(s: &[u8], v: usize, c: Coder) -> Result<Step<usize, Coder>, Cause>
     requires sized { Sized s.now }
     requires narrow { Narrow s.now c }
-    ensures result_value { symbol_given result ≡ refill_of s.now 2 v c }
+    ensures result_value { given result ≡ refill_of s.now 2 v c }
     ensures refilled { Refilled s.now v c result }
 {
-    let mut low = c.low;
-    let mut range = c.range;
-    let mut at = c.at;
-    let taken = c.taken;
-    let mut n: usize = 2;
-    while 0 < n {
-        if 65536 <= range {
-            return Symbol::Value(
-                v,
-                Coder {
-                    low,
-                    range,
-                    at,
-                    taken,
-                },
-            );
+    let mut next = c;
+    while next.range < 65536 {
+        if s.len() <= next.at {
+            return Err(Cause::Outside);
         }
-        if s.len() <= at {
-            return Symbol::Cause(6);
-        }
-        low = low * 256 % 16777216 + wide(s[at]);
-        range = range * 256;
-        at = at + 1;
-        n = n - 1;
+        next.low = next.low * 256 % 16777216 + usize::from(s[next.at]);
+        next.range = next.range * 256;
+        next.at = next.at + 1;
     }
-    Symbol::Value(
-        v,
-        Coder {
-            low,
-            range,
-            at,
-            taken,
-        },
-    )
+    Ok(Step { value: v, next })
 }
 
 // A symbol 0 .. last of the row that starts at entry `row`.
-pub fn decode(s: &[u8], cum: &[u16], row: usize, last: usize, c: Coder) -> Symbol
+pub fn decode(
+    s: &[u8],
+    cum: &[u16],
+    row: usize,
+    last: usize,
+    c: Coder,
+) -> Result<Step<usize, Coder>, Cause>
     requires ready { Ready s.now c 65536 }
     requires symbol_row { SymbolRow cum.now row last }
-    ensures result_value { symbol_given result ≡ symbol_of s.now cum.now row last c }
+    ensures result_value { given result ≡ symbol_of s.now cum.now row last c }
     ensures good_symbol { GoodSymbol s.now last c result }
 {
     let low = c.low;
     let range = c.range;
     let t = range / 1024;
     if t * 1024 <= low {
-        return Symbol::Cause(4);
+        return Err(Cause::Scaled);
     }
     let f = find(cum, row, t, low, last);
     refill(

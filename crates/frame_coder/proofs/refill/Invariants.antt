@@ -1,17 +1,18 @@
 -- `frame_coder::refill` meets its contract. The loop keeps what is still to be taken equal to the whole; two bytes are enough. Assumes
 -- nothing.
 use mathlib.Core.Path.{◌≡◌}
-use Prim.Native.Nat.{◌+◌, ◌-◌, ◌*◌, ◌≤◌, ◌<◌}
-use lib.ListN.{length}
+use Prim.Native.Nat.{◌+◌, ◌-◌, ◌*◌, ◌≤◌}
 use Rattle.frame_coder.specs.Symbol.{refill_of}
+use Rattle.frame_coder.specs.Sound.{Narrow}
 use Rattle.frame_coder.proofs.refill.Given as goal
 
-abbrev pub invariant-loop-n : goal.invariant-loop-n
-invariant-loop-n l =
-    (l.low < 16777216) × (l.range < 16777216) × (3 ≤ l.at) × (l.at ≤ length l.s) × (l.n ≤ 2)
-    × (64 ≤ l.range) × (16384 ≤ l.range + 16384 * (l.n - 1)) × (65536 ≤ l.range + 65536 * l.n)
-    × (refill_of l.s l.n l.v (record { low = l.low; range = l.range; at = l.at; taken = l.taken })
-    ≡ refill_of l.s 2 l.v (record { low = l.initial.low; range = l.initial.range; at = l.initial.at; taken = l.taken }))
+-- with n bytes that may still be taken
+abbrev pub invariant-loop-next : goal.invariant-loop-next
+invariant-loop-next l =
+    let n = l.initial.next.at + 2 - l.next.at in
+    Narrow l.s l.next × (l.next.taken ≡ l.initial.next.taken) × (l.initial.next.at ≤ l.next.at)
+    × (16384 ≤ l.next.range + 16384 * (n - 1)) × (65536 ≤ l.next.range + 65536 * n)
+    × (refill_of l.s n l.v l.next ≡ refill_of l.s 2 l.v l.initial.next)
 
-abbrev pub decreases-loop-n : goal.decreases-loop-n
-decreases-loop-n l = l.n
+abbrev pub decreases-loop-next : goal.decreases-loop-next
+decreases-loop-next l = 65536 - l.next.range
