@@ -11,11 +11,7 @@ use Rattle.frame_coder.specs.Symbol.{symbol_of}
 use Rattle.frame_tns.specs.Tns.{unused, coefficients_of, sent_of, filter_of}
 use Rattle.frame_coder.specs.declared.Coder.{Coder}
 
--- ---- the coefficients from k on: all of them, none left, no symbol, one more
-
-pub coefficients-all : (s rows : List ℕ) (n : ℕ) (l : List ℕ) (c : Coder)
-    → coefficients_of s rows (n - 0) 0 l c ≡ coefficients_of s rows n 0 l c
-coefficients-all s rows n l c = let p : n - 0 ≡ n = omega arith in rw p
+-- ---- the coefficients from k on: none left, no symbol, one more
 
 pub coefficients-done : (s rows : List ℕ) (n k : ℕ) (l : List ℕ) (c : Coder) → n ≤ k → coefficients_of s rows (n - k) k l c ≡ value l c
 unfolding coefficients_of

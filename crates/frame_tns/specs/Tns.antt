@@ -1,13 +1,12 @@
 -- The TNS data (5.4.2.7): for each filter with its flag set the order, then so many coefficients, and cause 8. Assumes nothing.
-use Rattle.std.specs.Prelude.{cond, List, [], ◌∷◌, ℕ, zero, suc, ◌*◌, ltb, eqb, length, set}
+use Rattle.std.specs.Prelude.{cond, Result, Ok, Err, List, [], ◌∷◌, ℕ, zero, suc, ◌*◌, ltb, eqb, length, set}
 use Rattle.frame_bits.specs.Read.{Read, value, cause, and_then}
 use Rattle.frame_settings.specs.Settings.{order_of, weighting}
 use Rattle.frame_coder.specs.Symbol.{symbol_of}
 use Rattle.frame_coder.specs.declared.Coder.{Coder}
-use Rattle.frame_tns.specs.declared.FilterRead.{FilterRead}
-use Rattle.frame_tns.specs.declared.FilterRead.TheVariants as filter
-use Rattle.frame_tns.specs.declared.CoefficientsRead.{CoefficientsRead}
-use Rattle.frame_tns.specs.declared.CoefficientsRead.TheVariants as coefficients
+use Rattle.frame_bits.specs.declared.Step.{Step}
+use Rattle.refusals.specs.declared.Cause.{Cause}
+use Rattle.refusals.specs.Numbers.{cause_number}
 
 -- a filter: its order and eight coefficients, 0 from the order on
 pub record Filter : Type 0 where
@@ -37,10 +36,10 @@ filter_of s orders rows q flag c =
     cond (eqb flag 0) (value (record { order = 0; coefficients = unused }) c) (sent_of s orders rows q c)
 
 -- the answers, with the coefficients in the list lent
-abbrev pub coefficients_given : CoefficientsRead → List ℕ → Read Coder (List ℕ)
-coefficients_given (coefficients.Value c) l = value l c
-coefficients_given (coefficients.Cause k) l = cause k
+abbrev pub coefficients_given : Result Coder Cause → List ℕ → Read Coder (List ℕ)
+coefficients_given (Ok c) l = value l c
+coefficients_given (Err why) l = cause (cause_number why)
 
-abbrev pub filter_given : FilterRead → List ℕ → Read Coder Filter
-filter_given (filter.Value n c) l = value (record { order = n; coefficients = l }) c
-filter_given (filter.Cause k) l = cause k
+abbrev pub filter_given : Result (Step ℕ Coder) Cause → List ℕ → Read Coder Filter
+filter_given (Ok order) l = value (record { order = order.value; coefficients = l }) order.next
+filter_given (Err why) l = cause (cause_number why)

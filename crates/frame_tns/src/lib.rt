@@ -8,25 +8,19 @@ ghost use Rattle.frame_tns.specs.Tns.{unused, coefficients_of, coefficients_give
 ghost use Rattle.frame_coder.specs.Sound.{Ready};
 ghost use Rattle.frame_tns.specs.Sound.{CoefficientRows, TnsTables, GoodCoefficients, GoodFilter};
 
-use frame_coder::{Coder, Symbol, decode};
+use frame_bits::Step;
+use frame_coder::{Coder, decode};
 use frame_settings::{highest_order, tns_weighting};
+use refusals::Cause;
 
-// The next cursor, or the cause of a bit error; the coefficients stand in the lent slice.
-#[derive(Clone, Copy)]
-pub enum CoefficientsRead {
-    Value(Coder),
-    Cause(u8),
-}
-
-// The order with the next cursor, or the cause of a bit error; the coefficients stand in the lent slice.
-#[derive(Clone, Copy)]
-pub enum FilterRead {
-    Value(u8, Coder),
-    Cause(u8),
-}
-
-// The first n coefficients, each of its own row.
-fn coefficients(s: &[u8], rows: &[u16], n: usize, out: &mut [u8], first: Coder) -> CoefficientsRead
+// The first n coefficients, each of its own row, in `out`; and the next cursor.
+fn coefficients(
+    s: &[u8],
+    rows: &[u16],
+    n: usize,
+    out: &mut [u8],
+    first: Coder,
+) -> Result<Coder, Cause>
     requires ready { Ready s.now first 32768 }
     requires coefficient_rows { CoefficientRows rows.now }
     requires n_bound { n ≤ 8 }
@@ -36,21 +30,16 @@ fn coefficients(s: &[u8], rows: &[u16], n: usize, out: &mut [u8], first: Coder) 
     ensures good_coefficients { GoodCoefficients s.now n first result }
 {
     let mut c = first;
-    let mut k = 0;
-    while k < n {
-        match decode(s, rows, k * 18, 16, c) {
-            Symbol::Cause(why) => return CoefficientsRead::Cause(why),
-            Symbol::Value(v, next) => {
-                out[k] = v as u8;
-                c = next;
-                k = k + 1;
-            }
-        }
+    for k in 0..n {
+        let symbol = decode(s, rows, k * 18, 16, c)?;
+        out[k] = symbol.value as u8;
+        c = symbol.next;
     }
-    CoefficientsRead::Value(c)
+    Ok(c)
 }
 
-// One filter: nothing is sent where its flag is 0, and no order above the highest. `out` comes as eight zeros.
+// One filter's order, its coefficients in `out`, which comes as eight zeros: nothing is sent where its flag is 0, and no order above the
+// highest.
 pub fn filter(
     s: &[u8],
     orders: &[u16],
@@ -59,7 +48,7 @@ pub fn filter(
     flag: u8,
     out: &mut [u8],
     c: Coder,
-) -> FilterRead
+) -> Result<Step<u8, Coder>, Cause>
     requires ready { Ready s.now c 16384 }
     requires tns_tables { TnsTables orders.now rows.now }
     requires duration_bound { duration ≤ 40 }
@@ -69,20 +58,17 @@ pub fn filter(
     ensures good_filter { GoodFilter s.now duration c result }
 {
     if flag == 0 {
-        return FilterRead::Value(0, c);
+        return Ok(Step { value: 0, next: c });
     }
     let w = tns_weighting(duration, s.len());
-    match decode(s, orders, w * 9, 7, c) {
-        Symbol::Cause(k) => FilterRead::Cause(k),
-        Symbol::Value(v, next) => {
-            let order = v + 1;
-            if highest_order(duration) < order {
-                return FilterRead::Cause(8);
-            }
-            match coefficients(s, rows, order, out, next) {
-                CoefficientsRead::Cause(k) => FilterRead::Cause(k),
-                CoefficientsRead::Value(end) => FilterRead::Value(order as u8, end),
-            }
-        }
+    let symbol = decode(s, orders, w * 9, 7, c)?;
+    let order = symbol.value + 1;
+    if highest_order(duration) < order {
+        return Err(Cause::Order);
     }
+    let next = coefficients(s, rows, order, out, symbol.next)?;
+    Ok(Step {
+        value: order as u8,
+        next,
+    })
 }

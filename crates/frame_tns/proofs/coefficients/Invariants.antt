@@ -1,6 +1,6 @@
 -- `frame_tns::coefficients` meets its contract. The loop keeps what is still to be read equal to the whole. Assumes nothing.
 use mathlib.Core.Path.{◌≡◌}
-use Prim.Native.Nat.{◌+◌, ◌-◌, ◌≤◌}
+use Prim.Native.Nat.{◌+◌, ◌-◌}
 use lib.ListN.{length}
 use Rattle.frame_tns.specs.Tns.{coefficients_of}
 use Rattle.frame_coder.specs.Sound.{Sound}
@@ -8,8 +8,5 @@ use Rattle.frame_tns.proofs.coefficients.Given as goal
 
 abbrev pub invariant-loop-k : goal.invariant-loop-k
 invariant-loop-k l =
-    (l.k ≤ l.n) × (length l.out ≡ 8) × Sound l.s l.c × (l.c.taken ≡ l.initial.c.taken + l.k)
+    Sound l.s l.c × (l.c.taken ≡ l.initial.c.taken + l.k)
     × (coefficients_of l.s l.rows (l.n - l.k) l.k l.out l.c ≡ coefficients_of l.s l.rows l.n 0 l.initial.out l.initial.c)
-
-abbrev pub decreases-loop-k : goal.decreases-loop-k
-decreases-loop-k l = l.n - l.k
