@@ -42,11 +42,7 @@ pub fn copy_part(from: &[u8], at: usize, out: &mut [u8])
     requires { at + length out.old ≤ length from.now }
     ensures { out.new ≡ take (length out.old) (drop at from.now) }
 {
-    let mut k: usize = 0;
-    while k < out.len() {
-        out[k] = from[at + k];
-        k = k + 1;
-    }
+    out.copy_from_slice(&from[at..at + out.len()]);
 }
 
 // The place in the slot of semi-octet k of word i (A.51).
@@ -75,13 +71,10 @@ fn scatter_data(
 {
     let count = slot_sizes::word_count(size);
     let checks = code_word_settings::distance(mode) - 1;
-    let mut r: u32 = 0;
-    let mut k: usize = 0;
-    while k < message.len() {
-        let c = message[k];
+    let mut r = 0;
+    for (k, &c) in message.iter().enumerate() {
         r = code_word::with_data(rows, k, c, r);
         places[place(size, count, i, checks + k)] = c ^ row[checks + k];
-        k = k + 1;
     }
     r
 }
@@ -93,11 +86,9 @@ fn scatter_checks(size: usize, i: usize, mode: usize, r: u32, row: &[u8], places
 {
     let count = slot_sizes::word_count(size);
     let mut rest = r;
-    let mut k = code_word_settings::distance(mode) - 1;
-    while 0 < k {
-        k = k - 1;
+    for k in (0..code_word_settings::distance(mode) - 1).rev() {
         places[place(size, count, i, k)] = (rest % 16) as u8 ^ row[k];
-        rest = rest / 16;
+        rest /= 16;
     }
 }
 
@@ -106,10 +97,8 @@ fn pack_bytes(places: &[u8], slot: &mut [u8])
     requires { InPairs slot.old places.now }
     ensures { slot.new ≡ pack (λ p. get_or places.now p 0) (length slot.old) }
 {
-    let mut j: usize = 0;
-    while j < slot.len() {
-        slot[j] = places[2 * j] + 16 * places[2 * j + 1];
-        j = j + 1;
+    for (j, b) in slot.iter_mut().enumerate() {
+        *b = places[2 * j] + 16 * places[2 * j + 1];
     }
 }
 
@@ -140,13 +129,11 @@ pub fn write_slot(size: usize, mode: usize, message: &[u8], slot: &mut [u8])
     let checks = code_word_settings::distance(mode) - 1;
     let rows = code_word::check_rows(mode as u32);
     let mut places = [0u8; 800];
-    let mut at: usize = 0;
-    let mut i: usize = 0;
-    while i < count {
+    let mut at = 0;
+    for i in 0..count {
         let e = at + (slot_sizes::word_length(size, count, i) - checks);
         place_word(size, mode, i, &message[at..e], &rows, &mut places);
         at = e;
-        i = i + 1;
     }
     pack_bytes(&places, slot);
 }

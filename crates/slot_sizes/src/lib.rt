@@ -87,11 +87,9 @@ pub fn conceal_size(size: usize, mode: usize) -> usize
     let count = word_count(size);
     let n = conceal_count(size, mode);
     let checks = code_word_settings::distance(mode) - 1;
-    let mut sum: usize = 0;
-    let mut k: usize = 0;
-    while k < n {
-        sum = sum + (word_length(size, count, count - 1 - k) - checks);
-        k = k + 1;
+    let mut sum = 0;
+    for k in 0..n {
+        sum += word_length(size, count, count - 1 - k) - checks;
     }
     sum
 }

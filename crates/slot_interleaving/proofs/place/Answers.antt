@@ -3,41 +3,29 @@ use Prim.Native.Nat.{◌+◌, ◌*◌, ◌<◌}
 use native.Mathlib.Omega.{arith}
 use Rattle.slot_interleaving.proofs.PlaceSteps.{place-below, place_is}
 use Rattle.slot_interleaving.proofs.place.Goals as goal
+use Rattle.slot_interleaving.proofs.place.Goals.{Start}
+
+below : (c : Start) → c.args.count * c.args.k + c.args.i < 2 * c.args.size
+below c =
+    let a = c.args in
+    let r = c.requires in
+    place-below a.size a.count a.i a.k r.size_from r.count_is r.word_below r.in_word
 
 pub overflow_mul-result-2 : goal.overflow_mul-result-2
-overflow_mul-result-2 c =
-    let below : c.args.count * c.args.k + c.args.i < 2 * c.args.size =
-    let a = c.args in place-below a.size a.count a.i a.k c.requires.size_from c.requires.count_is c.requires.word_below
-    c.requires.in_word in
-    let b = below in omega arith
+overflow_mul-result-2 c = omega (arith, below (goal.at.overflow_mul-result-2 c).Start)
 
 pub overflow_sub-result : goal.overflow_sub-result
-overflow_sub-result c =
-    let below : c.args.count * c.args.k + c.args.i < 2 * c.args.size =
-    let a = c.args in place-below a.size a.count a.i a.k c.requires.size_from c.requires.count_is c.requires.word_below
-    c.requires.in_word in
-    let b = below in omega arith
+overflow_sub-result c = omega (arith, below (goal.at.overflow_sub-result c).Start)
 
 pub overflow_sub-result-2 : goal.overflow_sub-result-2
-overflow_sub-result-2 c =
-    let below : c.args.count * c.args.k + c.args.i < 2 * c.args.size =
-    let a = c.args in place-below a.size a.count a.i a.k c.requires.size_from c.requires.count_is c.requires.word_below
-    c.requires.in_word in
-    let b = below in omega arith
+overflow_sub-result-2 c = omega (arith, below (goal.at.overflow_sub-result-2 c).Start)
 
 pub overflow_sub-result-3 : goal.overflow_sub-result-3
-overflow_sub-result-3 c =
-    let below : c.args.count * c.args.k + c.args.i < 2 * c.args.size =
-    let a = c.args in place-below a.size a.count a.i a.k c.requires.size_from c.requires.count_is c.requires.word_below
-    c.requires.in_word in
-    let b = below in omega arith
+overflow_sub-result-3 c = omega (arith, below (goal.at.overflow_sub-result-3 c).Start)
 
 pub returns : goal.returns
 returns c =
-    let below : c.args.count * c.args.k + c.args.i < 2 * c.args.size =
-    let a = c.args in place-below a.size a.count a.i a.k c.requires.size_from c.requires.count_is c.requires.word_below
-    c.requires.in_word in
-    let b = below in let a = c.args in record {
+    let a = c.args in record {
       value = place_is a.size a.count a.i a.k c.requires.count_is;
-      upper_bound = omega arith;
+      upper_bound = omega (arith, below (goal.at.returns c).Start);
     }

@@ -13,25 +13,22 @@ use Rattle.slot_interleaving.proofs.scatter_checks.Goals as goal
 pub loop-k-init : goal.loop-k-init
 loop-k-init c =
     let a = c.args in
-    let d = c.distance-k.ensures.is in
-    rw d (omega arith, digits-start (distance a.mode - 1) a.r, span_none (omega arith))
+    rw c.distance-k.ensures.is (digits-start (distance a.mode - 1) a.r, span_none (omega arith))
 
 pub place-requires : goal.place-requires
-place-requires c =
-    has-place c.requires c.word_count-count.ensures.value (check-in c.requires (omega (arith, c.loop-k.invariant.0, c.loop-k-test.true)))
+place-requires c = has-place c.requires c.word_count-count.ensures.value (check-in c.requires (omega (arith, c.loop-k-test.true)))
 
 pub loop-k-preserved : goal.loop-k-preserved
 loop-k-preserved c =
     let a = c.args in
     let n = distance a.mode - 1 in
-    let t = with-checks-turn c.loop-k.k c.loop-k.rest (with_checks n a.r []) c.loop-k-test.true
-    (omega (arith, digits-length n a.r, c.loop-k.invariant.0)) c.loop-k.invariant.1 in
+    let t = with-checks-turn c.loop-k.k c.loop-k.rest (with_checks n a.r []) (omega arith)
+    (omega (arith, digits-length n a.r)) c.loop-k.invariant.0 in
     let l = length-low a.size a.i c.requires.range.size_from c.requires.word_below in (
-      omega (arith, c.loop-k.invariant.0),
       t.1,
-      span-down c.requires c.loop-k.invariant.2 c.place.ensures.value t.0
-          (omega (arith, c.loop-k-test.true)) c.loop-k.invariant.0 (omega (arith, l, c.requires.range.mode_to)),
+      span-down c.requires c.loop-k.invariant.1 c.place.ensures.value t.0
+          (omega arith) (omega arith) (omega (arith, l, c.requires.range.mode_to)),
     )
 
 pub returns : goal.returns
-returns c = let e : c.loop-k.k ≡ 0 = omega (arith, c.loop-k-test.false) in rw e at c.loop-k.invariant.2
+returns c = let e : c.loop-k.k ≡ 0 = omega arith in rw e at c.loop-k.invariant.1

@@ -7,7 +7,7 @@ use Prim.Native.Nat.{◌-◌}
 use Rattle.slot_sizes.proofs.conceal_size.Goals as goal
 
 pub loop-k-init : goal.loop-k-init
-loop-k-init c = let a = c.args in (omega arith, omega arith, block_none a.size a.mode)
+loop-k-init c = let a = c.args in (omega arith, block_none a.size a.mode)
 
 pub loop-k-preserved : goal.loop-k-preserved
 loop-k-preserved c =
@@ -17,12 +17,11 @@ loop-k-preserved c =
     let l = c.word_length in
     let w : l.result ≡ word_length a.size (words a.size - 1 - c.loop-k.k) = rw e at l.ensures.value in (
       omega arith,
-      omega arith,
-      block-next a.size a.mode c.loop-k.k l.result d.result c.loop-k.sum d.ensures.is w c.loop-k.invariant.2,
+      block-next a.size a.mode c.loop-k.k l.result d.result c.loop-k.sum d.ensures.is w c.loop-k.invariant.1,
     )
 
 pub returns : goal.returns
 returns c = let a = c.args in
     let e : c.loop-k.k ≡ conceal_words a.size a.mode = omega arith in
-    let s : c.loop-k.sum ≡ block a.size a.mode (conceal_words a.size a.mode) = rw e at c.loop-k.invariant.2 in
+    let s : c.loop-k.sum ≡ block a.size a.mode (conceal_words a.size a.mode) = rw e at c.loop-k.invariant.1 in
     let u = block_last a.size a.mode c.loop-k.sum c.requires s in record { value = u.0; upper_bound = u.1 }
