@@ -18,12 +18,9 @@ pub fn unpack(slot: &[u8], places: &mut [u8])
     requires places_len { length places.old ≡ 2 * length slot.now }
     ensures { places.new ≡ unpacked slot.now }
 {
-    let mut j: usize = 0;
-    while j < slot.len() {
-        let b = slot[j];
+    for (j, &b) in slot.iter().enumerate() {
         places[2 * j] = b % 16;
         places[2 * j + 1] = b / 16;
-        j = j + 1;
     }
 }
 
@@ -44,13 +41,11 @@ fn receive_data(
 {
     let count = slot_sizes::word_count(size);
     let checks = code_word_settings::distance(mode) - 1;
-    let mut r: u32 = 0;
-    let mut k: usize = 0;
-    while k < w.len() {
+    let mut r = 0;
+    for (k, x) in w.iter_mut().enumerate() {
         let c = places[slot_interleaving::place(size, count, i, checks + k)] ^ row[checks + k];
-        w[k] = c;
+        *x = c;
         r = code_word::with_data(rows, k, c, r);
-        k = k + 1;
     }
     r
 }
@@ -62,14 +57,12 @@ fn same_checks(size: usize, i: usize, mode: usize, places: &[u8], row: &[u8], r:
     ensures { result ≡ true → ChecksAre size mode places.now i r }
 {
     let count = slot_sizes::word_count(size);
-    let mut bits: u8 = 0;
+    let mut bits = 0;
     let mut rest = r;
-    let mut k = code_word_settings::distance(mode) - 1;
-    while 0 < k {
-        k = k - 1;
+    for k in (0..code_word_settings::distance(mode) - 1).rev() {
         let c = places[slot_interleaving::place(size, count, i, k)] ^ row[k];
-        bits = bits | (c ^ (rest % 16) as u8);
-        rest = rest / 16;
+        bits |= c ^ (rest % 16) as u8;
+        rest /= 16;
     }
     bits == 0
 }
@@ -120,15 +113,13 @@ pub fn read_clean_with(
 {
     let count = slot_sizes::word_count(size);
     let checks = code_word_settings::distance(mode) - 1;
-    let mut at: usize = 0;
-    let mut i: usize = 0;
-    while i < count {
+    let mut at = 0;
+    for i in 0..count {
         let e = at + (slot_sizes::word_length(size, count, i) - checks);
         if !read_clean_word(size, mode, i, places, rows, &mut message[at..e]) {
             return false;
         }
         at = e;
-        i = i + 1;
     }
     true
 }

@@ -147,16 +147,15 @@ rest-is n h out e =
 
 pub front-is : (size mode q h : ℕ) (out head last rest : List ℕ) → h ≡ heading_size size mode
     → length out ≡ data_size size mode → head ≡ heading size mode q (take (length out - h) (drop h out))
-    → last ≡ take (length (take h out)) (drop 0 (head ++ rest))
+    → last ≡ take h (head ++ rest)
     → last ++ drop h out ≡ ordered size mode q (drop (heading_size size mode) out)
 unfolding ordered
 front-is size mode q h out head last rest e l f g =
     let d = length-drop h out in
     let t : take (length out - h) (drop h out) ≡ drop h out = take_all (length out - h) (drop h out) (omega arith) in
-    let n : length (take h out) ≡ h = length-take-le h out (omega arith) in
     let k : length head ≡ h = ap (λ (x : List ℕ). length x) f ∙ length-heading size mode q (take (length out - h) (drop h out)) ∙ sym e in
     let x : last ≡ heading size mode q (drop h out) =
-    g ∙ ap (λ (m : ℕ). take m (head ++ rest)) n ∙ take_at head rest h k ∙ f ∙ ap (heading size mode q) t in
+    g ∙ take_at head rest h k ∙ f ∙ ap (heading size mode q) t in
     ap (λ (y : List ℕ). y ++ drop h out) x ∙ ap (λ (m : ℕ). heading size mode q (drop m out) ++ drop m out) e
 
 -- ---- the data

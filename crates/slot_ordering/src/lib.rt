@@ -15,12 +15,10 @@ pub fn unroll(frame: &[u8], out: &mut [u8])
     ensures { out.new ≡ unrolled (length frame.now) frame.now }
 {
     let n = frame.len();
-    let mut k: usize = 0;
-    while k < n {
+    for k in 0..n {
         let b = frame[n - 1 - k];
         out[2 * k] = b / 16;
         out[2 * k + 1] = b % 16;
-        k = k + 1;
     }
 }
 
@@ -29,11 +27,9 @@ fn put_semis(v: u32, out: &mut [u8])
     ensures { out.new ≡ semis (length out.old) v }
 {
     let mut left = v;
-    let mut i: usize = 0;
-    while i < out.len() {
-        out[i] = (left % 16) as u8;
-        left = left / 16;
-        i = i + 1;
+    for c in out.iter_mut() {
+        *c = (left % 16) as u8;
+        left /= 16;
     }
 }
 
@@ -98,7 +94,7 @@ fn put_in_front(size: usize, mode: usize, request: u32, out: &mut [u8])
     let h = slot_sizes::heading_size(size, mode);
     let mut head = [0u8; 10];
     put_heading(size, mode, request, &out[h..], &mut head[..h]);
-    slot_interleaving::copy_part(&head, 0, &mut out[..h]);
+    out[..h].copy_from_slice(&head[..h]);
 }
 
 // The data of a slot (A.16 to A.37).

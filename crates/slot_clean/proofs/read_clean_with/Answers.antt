@@ -7,38 +7,32 @@ use native.Mathlib.Omega.{arith}
 use Rattle.slot_laws.proofs.RoomSteps.{WordPart, word-part, start_first, next_start, before-end, end-few, room-is}
 use Rattle.slot_clean.proofs.CleanSteps.{clean-first, clean-data, clean-next}
 use Rattle.slot_clean.proofs.read_clean_with.Goals as goal
+use Rattle.slot_clean.proofs.read_clean_with.Goals.{After-word_length}
 
 pub loop-i-init : goal.loop-i-init
 loop-i-init c =
     let a = c.args in
-    (omega arith, start_first a.size a.mode, c.requires.fact, clean-first a.size a.mode a.places.now a.message.now)
+    (start_first a.size a.mode, c.requires.fact, clean-first a.size a.mode a.places.now a.message.now)
+
+-- the room for the data of word i
+part : (c : After-word_length) → WordPart c.args.size c.args.mode c.loop-i.i c.loop-i.at c.word_length.result
+    (c.loop-i.at + (c.word_length.result - (c.distance-checks.result - 1))) c.loop-i.message
+part c =
+    word-part c.requires.semi_octets_of.range c.word_count-count.ensures.value c.loop-i-test.true c.loop-i.invariant.0
+    c.loop-i.invariant.1 c.word_length.ensures.value c.distance-checks.ensures
 
 pub overflow_add-e : goal.overflow_add-e
-overflow_add-e c =
-    let part : let a = c.args in WordPart a.size a.mode c.loop-i.i c.loop-i.at c.word_length.result
-    (c.loop-i.at + (c.word_length.result - (c.distance-checks.result - 1))) c.loop-i.message =
-    word-part c.requires.semi_octets_of.range c.word_count-count.ensures.value c.loop-i-test.true c.loop-i.invariant.1
-    c.loop-i.invariant.2 c.word_length.ensures.value c.distance-checks.ensures in
-    record { fits = omega (arith, end-few part) }
+overflow_add-e c = record { fits = omega (arith, end-few (part (goal.at.overflow_add-e c).After-word_length)) }
 
 pub slice_bounds-read_clean_word-end : goal.slice_bounds-read_clean_word-end
-slice_bounds-read_clean_word-end c =
-    let part : let a = c.args in WordPart a.size a.mode c.loop-i.i c.loop-i.at c.word_length.result
-    (c.loop-i.at + (c.word_length.result - (c.distance-checks.result - 1))) c.loop-i.message =
-    word-part c.requires.semi_octets_of.range c.word_count-count.ensures.value c.loop-i-test.true c.loop-i.invariant.1
-    c.loop-i.invariant.2 c.word_length.ensures.value c.distance-checks.ensures in
-    before-end part
+slice_bounds-read_clean_word-end c = before-end (part (goal.at.slice_bounds-read_clean_word-end c).After-word_length)
 
 pub read_clean_word-requires : goal.read_clean_word-requires
 read_clean_word-requires c =
-    let part : let a = c.args in WordPart a.size a.mode c.loop-i.i c.loop-i.at c.word_length.result
-    (c.loop-i.at + (c.word_length.result - (c.distance-checks.result - 1))) c.loop-i.message =
-    word-part c.requires.semi_octets_of.range c.word_count-count.ensures.value c.loop-i-test.true c.loop-i.invariant.1
-    c.loop-i.invariant.2 c.word_length.ensures.value c.distance-checks.ensures in
-    let p = part in
-    let r = p.range in record {
+    let p = part (goal.at.read_clean_word-requires c).After-word_length in
+    record {
       with_rows = record {
-        range = r;
+        range = p.range;
         word_below = p.inside;
         message_long = room-is p;
         rows_are = c.requires.rows_value;
@@ -49,36 +43,23 @@ read_clean_word-requires c =
 
 pub returns-then-not-read_clean_word : goal.returns-then-not-read_clean_word
 returns-then-not-read_clean_word c =
-    let part : let a = c.args in WordPart a.size a.mode c.loop-i.i c.loop-i.at c.word_length.result
-    (c.loop-i.at + (c.word_length.result - (c.distance-checks.result - 1))) c.loop-i.message =
-    word-part c.requires.semi_octets_of.range c.word_count-count.ensures.value c.loop-i-test.true c.loop-i.invariant.1
-    c.loop-i.invariant.2 c.word_length.ensures.value c.distance-checks.ensures in
+    let p = part (goal.at.returns-then-not-read_clean_word c).After-word_length in
     record {
-      fact_2 = clean-data c.args.places.now part c.requires.semi_octets_of.below c.read_clean_word.ensures.w_after;
+      fact_2 = clean-data c.args.places.now p c.requires.semi_octets_of.below c.read_clean_word.ensures.w_after;
       all_clean = λ e. absurd (true≢false (sym e));
     }
 
 pub loop-i-preserved : goal.loop-i-preserved
 loop-i-preserved c =
-    let part : let a = c.args in WordPart a.size a.mode c.loop-i.i c.loop-i.at c.word_length.result
-    (c.loop-i.at + (c.word_length.result - (c.distance-checks.result - 1))) c.loop-i.message =
-    word-part c.requires.semi_octets_of.range c.word_count-count.ensures.value c.loop-i-test.true c.loop-i.invariant.1
-    c.loop-i.invariant.2 c.word_length.ensures.value c.distance-checks.ensures in (
-      omega (arith, c.loop-i-test.true),
-      next_start part,
-      clean-data c.args.places.now part c.requires.semi_octets_of.below c.read_clean_word.ensures.w_after,
-      clean-next c.args.places.now part c.requires.semi_octets_of.below c.read_clean_word.ensures.w_after c.loop-i.invariant.3
+    let p = part (goal.at.loop-i-preserved c).After-word_length in (
+      next_start p,
+      clean-data c.args.places.now p c.requires.semi_octets_of.below c.read_clean_word.ensures.w_after,
+      clean-next c.args.places.now p c.requires.semi_octets_of.below c.read_clean_word.ensures.w_after c.loop-i.invariant.2
           (c.read_clean_word.ensures.clean_over c.if-not-read_clean_word.false),
     )
 
 pub returns : goal.returns
 returns c = record {
-  fact_2 = c.loop-i.invariant.2;
-  all_clean = λ e j l. c.loop-i.invariant.3 j (omega (
-    arith,
-    l,
-    c.loop-i.invariant.0,
-    c.word_count-count.ensures.value,
-    c.loop-i-test.false,
-  ));
+  fact_2 = c.loop-i.invariant.1;
+  all_clean = λ e j l. c.loop-i.invariant.2 j (omega (arith, l, c.word_count-count.ensures.value, c.loop-i-test.false));
 }

@@ -1,7 +1,6 @@
 -- `slot_clean::read_clean_with` meets its contract. The loop has the data of the first words where they belong, each under its own word.
 -- Assumes nothing.
 use mathlib.Core.Path.{◌≡◌}
-use Prim.Native.Nat.{◌≤◌, ◌-◌}
 use Rattle.laws.specs.Tab.{total}
 use Rattle.slot_laws.specs.Sizes.{data_length}
 use Rattle.slot_laws.specs.Order.{Data}
@@ -9,8 +8,5 @@ use Rattle.slot_clean.specs.Inner.{AllClean}
 use Rattle.slot_clean.proofs.read_clean_with.Given as goal
 
 abbrev pub invariant-loop-i : goal.invariant-loop-i
-invariant-loop-i l = (l.i ≤ l.count) × (l.at ≡ total (data_length l.size l.mode) l.i) × Data l.size l.mode l.message × AllClean l.size
+invariant-loop-i l = (l.at ≡ total (data_length l.size l.mode) l.i) × Data l.size l.mode l.message × AllClean l.size
     l.mode l.places l.message l.i
-
-abbrev pub decreases-loop-i : goal.decreases-loop-i
-decreases-loop-i l = l.count - l.i

@@ -1,6 +1,6 @@
 -- `slot_ordering::put_in_front` meets its contract. Assumes nothing.
 use Rattle.slot_ordering.proofs.OrderSteps.{blank, rest-is, front-is}
-use lib.Seq.{length-take-le, length_front}
+use lib.Seq.{length-take-le}
 use lib.ListN.{drop}
 use native.Mathlib.Omega.{arith}
 use mathlib.Core.Path.{sym, ◌∙◌}
@@ -18,25 +18,9 @@ put_heading-requires c = record {
   };
 }
 
-pub slice_bounds-copy_part-end : goal.slice_bounds-copy_part-end
-slice_bounds-copy_part-end c =
-    let h = c.heading_size-h in
-    let p = c.put_heading in
-    sym (length_front blank p.new.out h.result p.auto.out)
-
-pub slice_bounds-copy_part-end-3 : goal.slice_bounds-copy_part-end-3
-slice_bounds-copy_part-end-3 c =
-    sym (length-take-le c.heading_size-h.result c.args.out.now (omega (arith, c.requires.out_len, c.heading_size-h.ensures.is)))
-
-pub copy_part-requires : goal.copy_part-requires
-copy_part-requires c =
-    let p = c.put_heading in
-    let l = length_front blank p.new.out c.heading_size-h.result p.auto.out in
-    let t = length-take-le c.heading_size-h.result c.args.out.now (omega (arith, c.requires.out_len, c.heading_size-h.ensures.is)) in
-    omega (arith, c.heading_size-h.ensures.most)
-
 pub returns : goal.returns
 returns c =
     let a = c.args in
-    front-is a.size a.mode a.request c.heading_size-h.result a.out.now c.put_heading.new.out c.copy_part.new.out
-    (drop c.heading_size-h.result blank) c.heading_size-h.ensures.is c.requires.out_len c.put_heading.ensures c.copy_part.ensures
+    front-is a.size a.mode a.request c.heading_size-h.result a.out.now c.put_heading.new.out c.copy_from_slice.new.self
+    (drop c.heading_size-h.result blank) c.heading_size-h.ensures.is c.requires.out_len c.put_heading.ensures
+    c.copy_from_slice.ensures.after

@@ -6,19 +6,18 @@ use native.Mathlib.Omega.{arith}
 use mathlib.Core.Path.{refl}
 use Rattle.slot_ordering.proofs.put_semis.Goals as goal
 
-pub loop-i-init : goal.loop-i-init
-loop-i-init c =
-    let a = c.args in
-    (omega arith, refl, left-first a.v, filled-first (digit a.v) (length a.out.now) a.out.now refl)
+pub loop-c-init : goal.loop-c-init
+loop-c-init c = let a = c.args in (left-first a.v, filled-first (digit a.v) (length a.out.now) a.out.now refl)
 
-pub loop-i-preserved : goal.loop-i-preserved
-loop-i-preserved c =
+pub loop-c-preserved : goal.loop-c-preserved
+loop-c-preserved c =
     let a = c.args in
-    let g = semis-next a.v c.loop-i.left (length a.out.now) c.loop-i.i c.loop-i.out c.loop-i.invariant.2 (omega arith)
-    c.loop-i.invariant.3 in
-    (omega arith, g.long, left-next a.v c.loop-i.left c.loop-i.i c.loop-i.invariant.2, g)
+    let l = c.loop-c in (
+      left-next a.v l.left l.c-index l.invariant.0,
+      semis-next a.v l.left (length a.out.now) l.c-index l.out l.invariant.0 (omega arith) l.invariant.1,
+    )
 
 pub returns : goal.returns
 returns c =
     let a = c.args in
-    semis-is a.v (length a.out.now) c.loop-i.i c.loop-i.out (omega arith) c.loop-i.invariant.3
+    semis-is a.v (length a.out.now) c.loop-c.c-index c.loop-c.out (omega arith) c.loop-c.invariant.1

@@ -3,11 +3,8 @@ use Rattle.slot_ordering.proofs.OrderSteps.{turned}
 use Rattle.laws.proofs.Fill.{Filled}
 use lib.ListN.{length}
 use mathlib.Core.Path.{◌≡◌}
-use Prim.Native.Nat.{◌≤◌, ◌-◌, ◌*◌}
+use Prim.Native.Nat.{◌*◌}
 use Rattle.slot_ordering.proofs.unroll.Given as goal
 
 abbrev pub invariant-loop-k : goal.invariant-loop-k
-invariant-loop-k l = (l.k ≤ l.n) × (length l.out ≡ 2 * l.n) × Filled (turned l.frame) (2 * length l.frame) (2 * l.k) l.out
-
-abbrev pub decreases-loop-k : goal.decreases-loop-k
-decreases-loop-k l = l.n - l.k
+invariant-loop-k l = (length l.out ≡ 2 * l.n) × Filled (turned l.frame) (2 * length l.frame) (2 * l.k) l.out
