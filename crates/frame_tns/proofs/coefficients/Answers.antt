@@ -2,7 +2,7 @@
 use mathlib.Core.Path.{sym, ◌∙◌}
 use native.Mathlib.Omega.{arith}
 use Rattle.std.proofs.lemmas.Result.{err_from_is_err_and}
-use Rattle.frame_tns.proofs.CoefficientSteps.{coefficients-all, coefficients-done, coefficients-cause, coefficients-more}
+use Rattle.frame_tns.proofs.CoefficientSteps.{coefficients-done, coefficients-cause, coefficients-more}
 use Rattle.frame_tns.proofs.coefficients.Goals as goal
 
 pub decode-requires-clause-symbol_row : goal.decode-requires-clause-symbol_row

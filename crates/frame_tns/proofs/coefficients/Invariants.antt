@@ -1,7 +1,6 @@
 -- `frame_tns::coefficients` meets its contract. The loop keeps what is still to be read equal to the whole. Assumes nothing.
 use mathlib.Core.Path.{◌≡◌}
 use Prim.Native.Nat.{◌+◌, ◌-◌}
-use lib.ListN.{length}
 use Rattle.frame_tns.specs.Tns.{coefficients_of}
 use Rattle.frame_coder.specs.Sound.{Sound}
 use Rattle.frame_tns.proofs.coefficients.Given as goal
