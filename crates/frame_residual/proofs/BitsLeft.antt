@@ -1,49 +1,71 @@
 -- The loops of the bits left and of the residual bits (5.4.2.8), each way through a turn.
 -- Assumes nothing.
-use mathlib.Core.Path.{◌≡◌, refl, ap, ◌∙◌}
-use mathlib.Core.Bool.{true, false}
+use mathlib.Core.Path.{◌≡◌, refl}
+use mathlib.Core.Bool.{Bool, true, false, cond}
 use mathlib.Core.List.{List}
-use Prim.Native.Nat.{ℕ, zero, suc, ◌+◌, ◌-◌, ◌*◌, ◌^◌, ◌%◌, ◌≤◌, ◌<◌}
+use Prim.Native.Nat.{ℕ, zero, suc, ◌+◌, ◌-◌, ◌*◌, ◌^◌, ◌≤◌, ◌<◌, min}
 use native.Mathlib.Omega.{arith}
-use native.Mathlib.Nat.{one-mul, sub-zero}
-use lib.Pow.{shl_exact}
-use lib.ListN.{get_or, set}
+use native.Mathlib.Nat.{two-pow-succ}
+use lib.Dec.{ltb}
+use Rattle.std.proofs.lemmas.Nat.{pow_pos}
+use Rattle.std.proofs.Math.Pow.{pow_mono}
+use lib.ListN.{get_or, set, length, take}
+use Rattle.std.proofs.lemmas.List.{get_or-take, length-take}
 use lib.IntN.{ℤ, pos}
-use borrow.Author.Tests.{le-leb, lt-leb}
+use borrow.Author.Tests.{ltb-true, ltb-false, le-leb, lt-leb, le-ltb, lt-ltb}
 use Rattle.frame_bits.specs.Bits.{bit_of}
-use Rattle.frame_residual.specs.Residual.{log2_of, is_zero, residual_of}
+use Rattle.std.specs.Prelude.{Option, Some, None, Result, SomeIff}
+use Rattle.std.specs.Option.{ok_or}
+use Rattle.refusals.specs.declared.Cause.{Cause}
+use Rattle.refusals.specs.declared.Cause.TheVariants as why
+use Rattle.frame_bits.specs.Read.{value, cause}
+use Rattle.frame_residual.specs.Residual.{log2_of, left_given, is_zero, residual_of}
 
 -- ---- floor (log2 r)
 
-one_shifted : (k : ℕ) → k ≤ 23 → 1 * 2 ^ k % 2 ^ 64 ≡ 2 ^ k
-one_shifted k h = shl_exact 1 k 64 (omega arith) (omega arith) ∙ one-mul (2 ^ k)
-
-pub log2-here : (r k : ℕ) → 0 < k → k ≤ 23 → 1 * 2 ^ k % 2 ^ 64 ≤ r → k ≡ log2_of r k
+pub log2-zero : (n : ℕ) → 0 ≡ log2_of 0 n
 unfolding log2_of
-log2-here r k h b e = go k h (rw (one_shifted k b) at e)
-  where
-    go : (k : ℕ) → 0 < k → 2 ^ k ≤ r → k ≡ log2_of r k
-    go zero h e = absurd (omega arith)
-    go (suc k) h e = rw (le-leb (2 ^ suc k) r e)
+log2-zero zero = refl
+log2-zero (suc n) = rw (lt-leb (2 ^ suc n) 0 (pow_pos (suc n))) (log2-zero n)
 
-pub log2-below : (r k : ℕ) → 0 < k → k ≤ 23 → r < 1 * 2 ^ k % 2 ^ 64 → log2_of r (k - 1) ≡ log2_of r k
+-- k is the exponent of the largest power
+log2-step : (r k n : ℕ) → 2 ^ k ≤ r → r < 2 * 2 ^ k → min k n ≡ log2_of r n → (t : Bool) → ltb k (suc n) ≡ t
+    → min k (suc n) ≡ log2_of r (suc n)
 unfolding log2_of
-log2-below r k h b e = go k h (rw (one_shifted k b) at e)
-  where
-    go : (k : ℕ) → 0 < k → r < 2 ^ k → log2_of r (k - 1) ≡ log2_of r k
-    go zero h e = absurd (omega arith)
-    go (suc k) h e = let p : suc k - 1 ≡ k = omega arith in rw (p, lt-leb (2 ^ suc k) r e)
+log2-step r k n h l m true e =
+    let i : k < suc n = ltb-true k (suc n) e in
+    let w : 2 ^ suc k ≤ 2 ^ suc n = pow_mono i in
+    let d = two-pow-succ k in
+    rw (lt-leb (2 ^ suc n) r (omega arith), ← m) (omega arith)
+log2-step r k n h l m false e =
+    let i : suc n ≤ k = ltb-false k (suc n) e in
+    let w : 2 ^ suc n ≤ 2 ^ k = pow_mono i in
+    rw (le-leb (2 ^ suc n) r (omega arith)) (omega arith)
 
-pub log2-none : (r k : ℕ) → k ≤ 0 → 0 ≡ log2_of r k
+-- k is the exponent of the largest power
+pub log2-power : (r k n : ℕ) → 2 ^ k ≤ r → r < 2 * 2 ^ k → min k n ≡ log2_of r n
 unfolding log2_of
-log2-none r zero h = refl
-log2-none r (suc k) h = absurd (omega arith)
+log2-power r k zero h l = omega arith
+log2-power r k (suc n) h l = log2-step r k n h l (log2-power r k n h l) (ltb k (suc n)) refl
+
+-- the bits left, or cause 7
+pub left-says : (all used p : ℕ) (x : Option ℕ) (r : Result ℕ Cause) → SomeIff x (used ≤ all) (all - used) → r ≡ ok_or x why.Residual
+    → left_given r p ≡ cond (ltb all used) (cause 7) (value (all - used) p)
+left-says all used p (Some n) r h e = rw (e, le-ltb all used h.0, h.1)
+left-says all used p None r h e = rw (e, lt-ltb all used (omega arith))
 
 -- ---- residual bits: lines k .. n - 1 are to come
 
-pub residual-first : (s : List ℕ) (lines : List ℤ) (p left n : ℕ) (bits : List ℕ)
-    → residual_of s lines p left (n - 0) 0 0 bits ≡ residual_of s lines p left n 0 0 bits
-residual-first s lines p left n bits = ap (λ (m : ℕ). residual_of s lines p left m 0 0 bits) (sub-zero n)
+-- line k of the first n
+pub front-line : (n k : ℕ) (lines : List ℤ) → n ≤ length lines → k < length (take n lines)
+    → (k < n) × (get_or (take n lines) k (pos 0) ≡ get_or lines k (pos 0))
+front-line n k lines h l =
+    let e = length-take n lines in
+    let i : k < n = omega arith in
+    (i, get_or-take n lines k (pos 0) i)
+
+pub front-end : (n k : ℕ) (lines : List ℤ) → n ≤ length lines → length (take n lines) ≤ k → n ≤ k
+front-end n k lines h l = omega (arith, length-take n lines)
 
 pub residual-done : (s : List ℕ) (lines : List ℤ) (p left n k count : ℕ) (bits : List ℕ) → n ≤ k
     → residual_of s lines p left (n - k) k count bits ≡ record { number = count; bits = bits }

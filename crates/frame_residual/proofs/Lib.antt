@@ -1,4 +1,3 @@
--- The bits left and the residual bits, a line's late low bits, and the clearing of a buffer.
+-- The bits left and the residual bits, and a line's late low bits.
 pub mod BitsLeft
 pub mod LateBits
-pub mod Clearing

@@ -1,13 +1,12 @@
 -- Residual data (5.4.2.8): the bits left, the residual bits of LSB mode 0, a line's late low bits of LSB mode 1.
 -- Assumes nothing.
-use Rattle.std.specs.Prelude.{Bool, cond, List, ℕ, zero, suc, ◌+◌, ◌-◌, ◌*◌, ◌^◌, ltb, leb, eqb, get_or, set, ℤ, pos, negsuc}
+use Rattle.std.specs.Prelude.{Bool, Option, Some, None, Result, Ok, Err, cond, List, ℕ, zero, suc, ◌+◌, ◌-◌, ◌*◌, ◌^◌, ltb, leb, eqb, get_or, set, ℤ, pos, negsuc}
 use Rattle.frame_bits.specs.Read.{Read, value, cause}
 use Rattle.frame_bits.specs.Bits.{bit_of}
 use Rattle.frame_coder.specs.declared.Coder.{Coder}
-use Rattle.frame_residual.specs.declared.Left.{Left}
-use Rattle.frame_residual.specs.declared.Left.TheVariants as left
 use Rattle.frame_residual.specs.declared.LateRead.{LateRead}
-use Rattle.frame_residual.specs.declared.LateRead.TheVariants as late
+use Rattle.refusals.specs.declared.Cause.{Cause}
+use Rattle.refusals.specs.Numbers.{cause_number}
 
 -- the largest k up to n with 2^k ≤ r: floor (log2 r) where r is below 2^(n + 1)
 unfoldable pub log2_of : ℕ → ℕ → ℕ
@@ -22,9 +21,9 @@ used_bits p c = p + (8 * (c.at - 3) + (25 - log2_of c.range 23))
 unfoldable pub left_of : ℕ → ℕ → Coder → Read ℕ ℕ
 left_of bytes p c = cond (ltb (8 * bytes) (used_bits p c)) (cause 7) (value (8 * bytes - used_bits p c) p)
 
-abbrev pub left_given : Left → ℕ → Read ℕ ℕ
-left_given (left.Value n) p = value n p
-left_given (left.Cause k) p = cause k
+abbrev pub left_given : Result ℕ Cause → ℕ → Read ℕ ℕ
+left_given (Ok n) p = value n p
+left_given (Err why) p = cause (cause_number why)
 
 abbrev pub is_zero : ℤ → Bool
 is_zero (pos n) = eqb n 0
@@ -66,6 +65,6 @@ unfoldable pub late_of : List ℕ → ℤ → ℕ → ℕ → Late
 late_of s v p zero = stop
 late_of s v p (suc n) = cond (eqb (bit_of s p) 0) (line v (p + 1) n) (cond (is_zero v) (born_of s (p + 1) n) (line (away v) (p + 1) n))
 
-abbrev pub late_given : LateRead → Late
-late_given (late.Line v p n) = line v p n
-late_given late.Stop = stop
+abbrev pub late_given : Option LateRead → Late
+late_given (Some l) = line l.value l.next l.left
+late_given None = stop

@@ -1,20 +1,9 @@
 -- `frame_residual::bits_left` meets its contract. Assumes nothing.
-use mathlib.Core.Path.{refl, sym}
-use native.Mathlib.Omega.{arith}
-use borrow.Author.Tests.{lt-ltb, le-ltb}
+use mathlib.Core.Path.{sym}
 use Rattle.frame_residual.specs.Residual.{left_of}
+use Rattle.frame_residual.proofs.BitsLeft.{left-says}
 use Rattle.frame_residual.proofs.bits_left.Goals as goal
 
-pub returns-then-bytes-used : goal.returns-then-bytes-used
+pub returns-clause-p_value : goal.returns-clause-p_value
 unfolding left_of
-returns-then-bytes-used c = record {
-  p_value = rw (sym c.log2.ensures.value, lt-ltb _ _ c.if-bytes-used.true);
-  good_left = refl;
-}
-
-pub returns : goal.returns
-unfolding left_of
-returns c = record {
-  p_value = rw (sym c.log2.ensures.value, le-ltb _ _ c.if-bytes-used.false);
-  good_left = omega arith;
-}
+returns-clause-p_value c = rw (sym c.log2.ensures.value) (left-says _ _ _ _ _ c.checked_sub.ensures c.ok_or.ensures.value)

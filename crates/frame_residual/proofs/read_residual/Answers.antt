@@ -1,46 +1,42 @@
 -- `frame_residual::read_residual` meets its contract. The invariant: what is still to be read gives the whole. Assumes nothing.
 use mathlib.Core.Path.{sym, ◌∙◌}
 use native.Mathlib.Omega.{arith}
-use lib.ListN.{get_or, length-set}
 use lib.IntN.{pos}
-use Rattle.frame_residual.proofs.BitsLeft.{residual-first, residual-done, residual-full, residual-skip, residual-more}
+use lib.ListN.{get_or}
+use mir.Syntax.{w32}
+use mir.Val.{SFits}
+use Rattle.frame_residual.proofs.BitsLeft.{front-line, front-end, residual-done, residual-full, residual-skip, residual-more}
 use Rattle.frame_residual.proofs.LateBits.{zero-yes, zero-no}
-use borrow.Author.Rules.{rules}
 use Rattle.frame_residual.proofs.read_residual.Goals as goal
+use Rattle.frame_residual.proofs.read_residual.Goals.{then-line-ne0+else-left-count, else-line-ne0}
 
-pub loop-k-init : goal.loop-k-init
-loop-k-init c = (omega arith, omega arith, search rules, residual-first _ _ _ _ _ _)
+pub returns-then-left-count-clause-bits_after : goal.returns-then-left-count-clause-bits_after
+returns-then-left-count-clause-bits_after c =
+    let l = c.loop-line in
+    let f = front-line c.args.n l.line-index c.args.lines.now c.requires.n_in_bounds c.loop-line-test.true in
+    let x = get_or c.args.lines.now l.line-index (pos 0) in
+    let z = zero-no x (rw f.1 at c.if-line-ne0.true) in
+    sym (sym l.invariant.1 ∙ residual-full _ _ _ _ _ l.line-index l.count l.bits f.0 z c.if-left-count.true)
 
-pub returns-then-left-count : goal.returns-then-left-count
-returns-then-left-count c = let l = c.loop-k in
-    let x = get_or c.args.lines.now l.k (pos 0) in
-    let e = residual-full _ _ _ _ _ l.k l.count l.bits c.loop-k-test.true (zero-no x c.if-lines-at-ne0.true) c.if-left-count.true in
-    record {
-      bits_after = sym (sym l.invariant.3 ∙ e);
-      upper_bound = omega arith;
-    }
+pub loop-line-preserved : goal.loop-line-preserved
+loop-line-preserved c =
+    let l = c.loop-line in
+    let f = front-line c.args.n l.line-index c.args.lines.now c.requires.n_in_bounds c.loop-line-test.true in
+    let x = get_or c.args.lines.now l.line-index (pos 0) in
+    elim c.if-line-ne0.branch [
+      | then-line-ne0+else-left-count w ↦
+          let z = zero-no x (rw f.1 at w.if-line-ne0.true) in
+          let b = w.bit_at.ensures.value in
+          let e = residual-more _ _ _ _ _ l.line-index l.count _ l.bits f.0 z w.if-left-count.false b in
+          (omega arith, rw (w.count-is, w.bits-is) (e ∙ l.invariant.1))
+      | else-line-ne0 w ↦
+          let s : SFits w32 x = rw (← f.1) (record { sfits = omega arith }) in
+          let z = zero-yes x s (rw f.1 at w.if-line-ne0.false) in
+          (omega arith, rw (w.count-is, w.bits-is) (residual-skip _ _ _ _ _ l.line-index l.count l.bits f.0 z ∙ l.invariant.1))
+    ]
 
-pub loop-k-preserved-then-lines-at-ne0 : goal.loop-k-preserved-then-lines-at-ne0
-loop-k-preserved-then-lines-at-ne0 c =
-    let l = c.loop-k in
-    let x = get_or c.args.lines.now l.k (pos 0) in
-    let z = zero-no x c.if-lines-at-ne0.true in (
-      omega arith,
-      omega arith,
-      simp length-set l.invariant.2,
-      residual-more _ _ _ _ _ l.k l.count _ l.bits c.loop-k-test.true z c.if-left-count.false c.bit_at.ensures.value ∙ l.invariant.3,
-    )
-
-pub loop-k-preserved : goal.loop-k-preserved
-loop-k-preserved c =
-    let l = c.loop-k in
-    let x = get_or c.args.lines.now l.k (pos 0) in
-    let z = zero-yes x (record { sfits = c.t13-1.given }) c.if-lines-at-ne0.false in
-    (omega arith, omega arith, l.invariant.2, residual-skip _ _ _ _ _ l.k l.count l.bits c.loop-k-test.true z ∙ l.invariant.3)
-
-pub returns : goal.returns
-returns c = let l = c.loop-k in
-    record {
-      bits_after = sym (sym l.invariant.3 ∙ residual-done _ _ _ _ _ l.k l.count l.bits c.loop-k-test.false);
-      upper_bound = omega arith;
-    }
+pub returns-clause-bits_after : goal.returns-clause-bits_after
+returns-clause-bits_after c =
+    let l = c.loop-line in
+    let e = front-end c.args.n l.line-index c.args.lines.now c.requires.n_in_bounds c.loop-line-test.false in
+    sym (sym l.invariant.1 ∙ residual-done _ _ _ _ _ l.line-index l.count l.bits e)
