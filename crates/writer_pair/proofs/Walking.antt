@@ -1,19 +1,19 @@
--- What the code of one pair asks: a line's magnitude and sign, streams written one behind the other, and the loop over the escapes.
+-- What the code of one pair asks: a line's sign, streams written one behind the other, and the loop over the escapes.
 -- Assumes nothing.
 use mathlib.Core.Path.{◌≡◌, refl, sym, ap, ap₂, ◌∙◌, subst}
 use mathlib.Core.Logic.{◌⊎◌, inl, inr}
-use mathlib.Core.Bool.{Bool, true, false, true≢false}
+use mathlib.Core.Bool.{Bool, true, false, not}
 use mathlib.Core.List.{List, [], ◌++◌, append_assoc, append-nil}
 use Prim.Native.Nat.{ℕ, zero, suc, ◌+◌, ◌-◌, ◌*◌, ◌/◌, ◌%◌, ◌^◌, ◌≤◌, ◌<◌}
 use native.Mathlib.Omega.{arith}
 use native.Mathlib.Nat.{div-one, sub-zero}
-use lib.Dec.{T, ltb}
-use borrow.Author.Tests.{ltb-true, ltb-false}
+use lib.Dec.{eqb, ltb}
+use borrow.Author.Tests.{eqb-true, eqb-false, le-ltb, ltb-true, ltb-false}
 use lib.ListN.{length}
-use lib.IntN.{ℤ, pos, negsuc, nat_abs, neg_ℤ, ◌-ℤ◌, +ℤ_idl}
-use lib.Signed.{lt_z, non_neg}
-use mir.Syntax.{w32, w64}
-use mir.Val.{Fits, SFits, of_z, to_z}
+use lib.IntN.{ℤ, pos, negsuc, nat_abs}
+use lib.Signed.{lt_z}
+use mir.Syntax.{w32}
+use mir.Val.{SFits, of_z, to_z, bool_byte}
 use mir.ValLaws.{to_z-of_z}
 use Rattle.coder_tables.specs.Rows.{SpectrumTables}
 use Rattle.frame_bits.specs.Fields.{value_bits}
@@ -37,87 +37,40 @@ fits-of : (u : ℤ) → nat_abs u ≤ 32767 → SFits w32 u
 fits-of (pos n) h = let b : n < 2147483648 = omega arith in record { sfits = b }
 fits-of (negsuc n) h = let b : n < 2147483648 = omega arith in record { sfits = b }
 
-neg-size : (u : ℤ) → nat_abs (neg_ℤ u) ≡ nat_abs u
-neg-size (pos zero) = refl
-neg-size (pos (suc n)) = refl
-neg-size (negsuc n) = refl
-
-neg_of : (u : ℤ) → lt_z u (pos 0) ≡ true → T (non_neg (neg_ℤ u))
-neg_of (pos zero) e = tt
-neg_of (pos (suc n)) e = let h = ltb-true (suc n) 0 e in absurd (omega arith)
-neg_of (negsuc n) e = tt
-
-not_neg : (u : ℤ) → lt_z u (pos 0) ≡ false → T (non_neg u)
-not_neg (pos n) e = tt
-not_neg (negsuc n) e = absurd (true≢false e)
-
 module _ (u : ℤ) (small : nat_abs u ≤ 32767) where
   pub bits_are : to_z w32 (of_z w32 u) ≡ u
   bits_are = to_z-of_z w32 u (fits-of u small)
 
-  minus_is : pos 0 -ℤ to_z w32 (of_z w32 u) ≡ neg_ℤ u
-  minus_is = +ℤ_idl (neg_ℤ (to_z w32 (of_z w32 u))) ∙ ap neg_ℤ bits_are
-
-  neg-fits : SFits w32 (neg_ℤ u)
-  neg-fits = fits-of (neg_ℤ u) (rw (neg-size u) small)
-
-  pub minus-fits : SFits w32 (pos 0 -ℤ to_z w32 (of_z w32 u))
-  minus-fits = subst (λ (z : ℤ). SFits w32 z) (sym minus_is) neg-fits
-
-  minus-bits : to_z w32 (of_z w32 (pos 0 -ℤ to_z w32 (of_z w32 u))) ≡ neg_ℤ u
-  minus-bits = ap (λ (z : ℤ). to_z w32 (of_z w32 z)) minus_is ∙ to_z-of_z w32 (neg_ℤ u) neg-fits
-
-  pub minus-size : nat_abs (to_z w32 (of_z w32 (pos 0 -ℤ to_z w32 (of_z w32 u)))) ≡ nat_abs u
-  minus-size = ap nat_abs minus-bits ∙ neg-size u
-
-  pub minus-cast : lt_z (to_z w32 (of_z w32 u)) (pos 0) ≡ true
-      → T (non_neg (to_z w32 (of_z w32 (pos 0 -ℤ to_z w32 (of_z w32 u)))))
-      × Fits w64 (nat_abs (to_z w32 (of_z w32 (pos 0 -ℤ to_z w32 (of_z w32 u)))))
-  minus-cast e =
-      let m = minus-size in
-      (subst (λ (z : ℤ). T (non_neg z)) (sym minus-bits) (neg_of u (rw bits_are at e)), record { fits = omega arith })
-
-  pub plus-cast : lt_z (to_z w32 (of_z w32 u)) (pos 0) ≡ false
-      → T (non_neg (to_z w32 (of_z w32 u))) × Fits w64 (nat_abs (to_z w32 (of_z w32 u)))
-  plus-cast e =
-      let m = ap nat_abs bits_are in
-      (subst (λ (z : ℤ). T (non_neg z)) (sym bits_are) (not_neg u (rw bits_are at e)), record { fits = omega arith })
-
--- a line's sign bit and how many it has, from the tests that the code makes
-abbrev Signed : ℤ → ℕ → Type 0
+-- a line's sign bit and how many it has, as the code counts them
+abbrev pub Signed : ℤ → ℕ → Type 0
 Signed u b = (value_bits b (length (sign_bits u)) ≡ sign_bits u) × (b < 2 ^ length (sign_bits u))
 
-abbrev Counted : ℤ → ℕ → Type 0
+abbrev pub Counted : ℤ → ℕ → Type 0
 Counted u n = (n ≡ length (sign_bits u)) × (n ≤ 1)
 
 module _ (u : ℤ) (f : SFits w32 u) where
-  pub sign-minus : lt_z (to_z w32 (of_z w32 u)) (pos 0) ≡ true → Signed u 1
+  pub sign-bit : {b : ℕ} → b ≡ bool_byte (lt_z (to_z w32 (of_z w32 u)) (pos 0)) → Signed u b
   unfolding value_bits
-  sign-minus e = go u (rw (to_z-of_z w32 u f) at e)
+  sign-bit e = subst (λ (b : ℕ). Signed u b) (sym (rw (to_z-of_z w32 u f) at e)) (go u)
     where
-      go : (v : ℤ) → lt_z v (pos 0) ≡ true → Signed v 1
-      go (pos n) e = let h = ltb-true n 0 e in absurd (omega arith)
-      go (negsuc n) e = (refl, omega arith)
+      go : (v : ℤ) → Signed v (bool_byte (lt_z v (pos 0)))
+      go (pos zero) = (refl, omega arith)
+      go (pos (suc n)) = rw (le-ltb (suc n) 0 (omega arith)) (refl, omega arith)
+      go (negsuc n) = (refl, omega arith)
 
-  pub sign-plus : lt_z (to_z w32 (of_z w32 u)) (pos 0) ≡ false → Signed u 0
-  unfolding value_bits
-  sign-plus e = go u (rw (to_z-of_z w32 u f) at e)
+  pub sign-count : {n : ℕ} → n ≡ bool_byte (not (eqb (of_z w32 u) 0)) → Counted u n
+  sign-count e = subst (λ (n : ℕ). Counted u n) (sym e) (go (eqb (of_z w32 u) 0) refl)
     where
-      go : (v : ℤ) → lt_z v (pos 0) ≡ false → Signed v 0
-      go (pos zero) e = (refl, omega arith)
-      go (pos (suc m)) e = (refl, omega arith)
-      go (negsuc m) e = absurd (true≢false e)
+      some : (v : ℤ) → (of_z w32 v ≡ 0 → ⊥) → Counted v 1
+      some (pos zero) n = absurd (n refl)
+      some (pos (suc m)) n = (refl, omega arith)
+      some (negsuc m) n = (refl, omega arith)
 
-  pub sign-none : of_z w32 u ≡ 0 → Counted u 0
-  sign-none e = subst (λ (z : ℤ). Counted z 0) (ap (to_z w32) (sym e) ∙ to_z-of_z w32 u f) (refl, omega arith)
-
-  pub sign-some : (of_z w32 u ≡ 0 → ⊥) → Counted u 1
-  sign-some n = go u n
-    where
-      go : (v : ℤ) → (of_z w32 v ≡ 0 → ⊥) → Counted v 1
-      go (pos zero) n = absurd (n refl)
-      go (pos (suc m)) n = (refl, omega arith)
-      go (negsuc m) n = (refl, omega arith)
+      go : (t : Bool) → eqb (of_z w32 u) 0 ≡ t → Counted u (bool_byte (not t))
+      go true e =
+          let z = eqb-true (of_z w32 u) 0 e in
+          subst (λ (z : ℤ). Counted z 0) (ap (to_z w32) (sym z) ∙ to_z-of_z w32 u f) (refl, omega arith)
+      go false e = some u (eqb-false (of_z w32 u) 0 e)
 
 -- ---- both streams
 
@@ -305,16 +258,13 @@ pair-context x y u v context symbol level r isx isy h k e f g =
     let f1 = rw (isx, isy) at f in
     g ∙ rw (e1, f1, parts.0, parts.1) refl
 
--- a sign put as so many bits: what the calls are told of the line is told of its bits w
-module _ (u w : ℤ) (e : w ≡ u) (b n : ℕ) (s : Signed w b) (k : Counted w n) where
+-- a sign put as so many bits
+module _ (u : ℤ) {b n : ℕ} (s : Signed u b) (k : Counted u n) where
   pub sign_below : b < 2 ^ n
   sign_below = subst (λ (m : ℕ). b < 2 ^ m) (sym k.0) s.1
 
   pub sign-put : {side side' : List ℕ} {c d : Cursor} → Puts (value_bits b n) side side' c d → Puts (sign_bits u) side side' c d
-  sign-put h = puts-as (ap (λ (m : ℕ). value_bits b m) k.0 ∙ (s.0 ∙ ap sign_bits e)) h
-
-  pub sign-length-is : n ≡ length (sign_bits u)
-  sign-length-is = k.0 ∙ ap (λ (z : ℤ). length (sign_bits z)) e
+  sign-put h = puts-as (ap (λ (m : ℕ). value_bits b m) k.0 ∙ s.0) h
 
 -- what a call is told of a line is told of its bits
 module _ (u : ℤ) (small : nat_abs u ≤ 32767) where

@@ -4,9 +4,8 @@
 // `writer_stream` and `writer_bits` with room for a pair.
 #![tactic(auto)]
 
-ghost use Rattle.std.specs.Prelude.{◌≡◌, ◌+◌, ◌*◌, ◌/◌, ◌^◌, ◌≤◌, ◌<◌, nat_abs, length};
+ghost use Rattle.std.specs.Prelude.{◌≡◌, ◌+◌, ◌/◌, ◌^◌, ◌≤◌, ◌<◌, nat_abs, length};
 ghost use Rattle.coder_tables.specs.Layout.{by_level};
-ghost use Rattle.frame_bits.specs.Fields.{value_bits};
 ghost use Rattle.frame_pair.specs.Pair.{context_of};
 ghost use Rattle.frame_pair.specs.Sound.{PairTables};
 ghost use Rattle.writer_steps.specs.Cursors.{Open, Puts};
@@ -18,16 +17,6 @@ use frame_pair::{next_context, row_of};
 use writer_bits::put;
 use writer_steps::{Cursor, PairSent, Walked};
 use writer_stream::encode;
-
-pub fn magnitude(u: i32) -> usize
-    requires { nat_abs u ≤ 32767 }
-    ensures { result ≡ nat_abs u }
-{
-    if u < 0 {
-        return (0 - u) as usize;
-    }
-    u as usize
-}
 
 // The escapes of a pair with their low bits, and its last symbol.
 fn write_levels(
@@ -76,22 +65,6 @@ fn write_levels(
     }
 }
 
-// The sign bit of a line, 0 where it has none.
-fn minus(u: i32) -> usize
-    ensures u_value { value_bits result (length (sign_bits u)) ≡ sign_bits u }
-    ensures upper_bound { result < 2 ^ length (sign_bits u) }
-{
-    if u < 0 { 1 } else { 0 }
-}
-
-// How many sign bits a line has: none where it is 0, else one.
-fn signs(u: i32) -> usize
-    ensures value { result ≡ length (sign_bits u) }
-    ensures upper_bound { result ≤ 1 }
-{
-    if u == 0 { 0 } else { 1 }
-}
-
 // The sign bit of a line; one that is 0 has none. A sign is no branch, since nothing foretells it.
 fn write_sign(u: i32, p: Cursor, side: &mut [u8]) -> Cursor
     requires fact { Open side.old p }
@@ -100,7 +73,7 @@ fn write_sign(u: i32, p: Cursor, side: &mut [u8]) -> Cursor
     ensures fact_2 { Open side.new result }
     ensures at_value { result.at ≡ p.at + length (sign_bits u) }
 {
-    put(minus(u), signs(u), p, side)
+    put(usize::from(u < 0), usize::from(u != 0), p, side)
 }
 
 // One pair of lines.
@@ -133,8 +106,8 @@ pub fn write_pair(
         look,
         cum,
         base,
-        magnitude(u),
-        magnitude(v),
+        u.unsigned_abs() as usize,
+        v.unsigned_abs() as usize,
         c,
         p,
         front,

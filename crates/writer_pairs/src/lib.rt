@@ -28,7 +28,7 @@ pub fn write_pairs(
     start: Cursor,
     front: &mut [u8],
     side: &mut [u8],
-) -> PairsSent
+) -> Option<PairsSent>
     requires pair_tables { PairTables look.now cum.now }
     requires offset_bound { o.offset ≤ 512 }
     requires le_n { 1 ≤ n }
@@ -44,8 +44,7 @@ pub fn write_pairs(
     let mut c = first;
     let mut p = start;
     let mut context = 0;
-    let mut k = 0;
-    while k < n {
+    for k in 0..n {
         let base = base_of(context, o.offset, o.half, 2 * k);
         let w = write_pair(
             look,
@@ -62,10 +61,9 @@ pub fn write_pairs(
         c = w.coder;
         p = w.side;
         context = w.context;
-        k = k + 1;
         if 8 * bytes < 8 * (c.at - 3) + 2 + p.at {
-            return PairsSent::TooSmall;
+            return None;
         }
     }
-    PairsSent::Sent(c, p)
+    Some(PairsSent { coder: c, side: p })
 }

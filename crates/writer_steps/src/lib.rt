@@ -28,16 +28,9 @@ pub struct PairSent {
     pub side: Cursor,
 }
 
-// Both streams behind the pairs; or the frame is too small.
+// Both streams behind the pairs.
 #[derive(Clone, Copy)]
-pub enum PairsSent {
-    Sent(Coder, Cursor),
-    TooSmall,
-}
-
-// The number of residual bits sent; or the frame is too small.
-#[derive(Clone, Copy)]
-pub enum FrameSent {
-    Sent(usize),
-    TooSmall,
+pub struct PairsSent {
+    pub coder: Coder,
+    pub side: Cursor,
 }

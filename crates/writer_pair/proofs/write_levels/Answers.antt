@@ -14,12 +14,6 @@ loop-a-init c =
     walks-first (by_level a.look.now) a.cum.now a.base a.x a.y c.requires.x_bound c.requires.y_bound a.front.now a.side.now
     a.first a.start c.requires.sends.flows c.requires.sends.sides
 
-pub row_of-requires : goal.row_of-requires
-row_of-requires c = record {
-  look_len = c.requires.pair_tables.looks;
-  base_bound = c.requires.base_bound;
-}
-
 pub encode-c-requires : goal.encode-c-requires
 encode-c-requires c =
     let room : Room c.loop-a.level c.loop-a.c c.loop-a.p =
@@ -89,24 +83,6 @@ loop-a-preserved c =
     c.put-p.result
     escaping c.row_of.ensures.value c.encode-c.ensures.result_after c.encode-c.ensures.flows_2 c.encode-c.ensures.one_more
     c.put-p.ensures.puts c.put-p.ensures.fact_2 c.put-p.ensures.at_value
-
-pub overflow_mul-symbol : goal.overflow_mul-symbol
-overflow_mul-symbol c =
-    let low : (c.loop-a.a < 4) × (c.loop-a.b < 4) =
-    (c.if-a-ge4.false, c.if-b-ge4.false) in
-    let h = low.1 in record { fits = omega arith }
-
-pub overflow_add-symbol : goal.overflow_add-symbol
-overflow_add-symbol c =
-    let low : (c.loop-a.a < 4) × (c.loop-a.b < 4) =
-    (c.if-a-ge4.false, c.if-b-ge4.false) in
-    let g = low.0 in let h = low.1 in record { fits = omega arith }
-
-pub row_of-requires-2 : goal.row_of-requires-2
-row_of-requires-2 c = record {
-  look_len = c.requires.pair_tables.looks;
-  base_bound = c.requires.base_bound;
-}
 
 pub encode-last-requires : goal.encode-last-requires
 encode-last-requires c =

@@ -8,8 +8,8 @@ pub write_levels-w-requires : goal.write_levels-w-requires
 write_levels-w-requires c = let a = c.args in record {
   pair_tables = c.requires.pair_tables;
   base_bound = c.requires.base_bound;
-  x_bound = size_small a.u c.requires.u_bound c.magnitude.ensures;
-  y_bound = size_small a.v c.requires.v_bound c.magnitude-2.ensures;
+  x_bound = size_small a.u c.requires.u_bound c.unsigned_abs.ensures.value;
+  y_bound = size_small a.v c.requires.v_bound c.unsigned_abs-2.ensures.value;
   sends = c.requires.sends;
 }
 
@@ -36,8 +36,8 @@ returns c = let a = c.args in
     let cum = a.cum.now in
     let hu = c.requires.u_bound in
     let hv = c.requires.v_bound in
-    let isx = size_is a.u hu c.magnitude.ensures in
-    let isy = size_is a.v hv c.magnitude-2.ensures in
+    let isx = size_is a.u hu c.unsigned_abs.ensures.value in
+    let isy = size_is a.v hv c.unsigned_abs-2.ensures.value in
     let at2 = sign_at a.u hu c.write_levels-w.result.side.at c.write_sign-p2.ensures.at_value in
     let at3 = sign_at a.v hv c.write_sign-p2.result.at c.write_sign-p3.ensures.at_value in record {
       context_value = pair-context _ _ a.u a.v a.context c.write_levels-w.result.symbol c.write_levels-w.result.level _ isx isy hu hv

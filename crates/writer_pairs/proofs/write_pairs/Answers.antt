@@ -1,12 +1,10 @@
 -- `writer_pairs::write_pairs` meets its contract. The loop has the rest of the pairs make the whole. Assumes nothing.
 use mathlib.Core.Path.{refl}
-use Prim.Native.Nat.{◌+◌, ◌*◌, ◌≤◌, ◌<◌}
-use native.Mathlib.Omega.{arith}
-use lib.ListN.{length}
+use Prim.Native.Nat.{◌+◌, ◌*◌}
 use Rattle.coder_tables.specs.Layout.{by_level}
 use Rattle.writer_laws.specs.Pairs.{line_at}
 use Rattle.writer_pair.proofs.Walking.{bits_are, size_small}
-use Rattle.writer_pairs.proofs.Pairing.{pair_ends, going-first, going-wide, going-last, going_more, going-small}
+use Rattle.writer_pairs.proofs.Pairing.{going-first, going-wide, going-last, going_more, going-small}
 use Rattle.writer_pairs.proofs.write_pairs.Goals as goal
 
 pub loop-k-init : goal.loop-k-init
@@ -14,84 +12,6 @@ loop-k-init c =
     let a = c.args in
     going-first (by_level a.look.now) a.cum.now a.o a.lines.now a.n a.bytes a.front.now a.side.now a.first
     a.start c.requires.sends
-
-pub overflow_mul-k : goal.overflow_mul-k
-overflow_mul-k c =
-    let inside : (c.loop-k.k < 200) × (2 * c.loop-k.k + 1 < length c.args.lines.now) =
-    let m = c.requires.n_bound in
-    let l = c.requires.n_in_bounds in
-    let t = c.loop-k-test.true in
-    (omega arith, omega arith) in
-    let h = inside.0 in record { fits = omega arith }
-
-pub base_of-base-requires : goal.base_of-base-requires
-base_of-base-requires c = record {
-  context_bound = c.loop-k.invariant.low;
-  offset_bound = c.requires.offset_bound;
-}
-
-pub overflow_mul-k-in-loop-k : goal.overflow_mul-k-in-loop-k
-overflow_mul-k-in-loop-k c =
-    let inside : (c.loop-k.k < 200) × (2 * c.loop-k.k + 1 < length c.args.lines.now) =
-    let m = c.requires.n_bound in
-    let l = c.requires.n_in_bounds in
-    let t = c.loop-k-test.true in
-    (omega arith, omega arith) in
-    let h = inside.0 in record { fits = omega arith }
-
-pub offset_bounds-lines-k : goal.offset_bounds-lines-k
-offset_bounds-lines-k c =
-    let inside : (c.loop-k.k < 200) × (2 * c.loop-k.k + 1 < length c.args.lines.now) =
-    let m = c.requires.n_bound in
-    let l = c.requires.n_in_bounds in
-    let t = c.loop-k-test.true in
-    (omega arith, omega arith) in
-    let h = inside.0 in record { fits = omega arith }
-
-pub bounds-lines-k : goal.bounds-lines-k
-bounds-lines-k c =
-    let inside : (c.loop-k.k < 200) × (2 * c.loop-k.k + 1 < length c.args.lines.now) =
-    let m = c.requires.n_bound in
-    let l = c.requires.n_in_bounds in
-    let t = c.loop-k-test.true in
-    (omega arith, omega arith) in
-    let h = inside.1 in omega arith
-
-pub overflow_mul-k-in-loop-k-2 : goal.overflow_mul-k-in-loop-k-2
-overflow_mul-k-in-loop-k-2 c =
-    let inside : (c.loop-k.k < 200) × (2 * c.loop-k.k + 1 < length c.args.lines.now) =
-    let m = c.requires.n_bound in
-    let l = c.requires.n_in_bounds in
-    let t = c.loop-k-test.true in
-    (omega arith, omega arith) in
-    let h = inside.0 in record { fits = omega arith }
-
-pub overflow_add-k : goal.overflow_add-k
-overflow_add-k c =
-    let inside : (c.loop-k.k < 200) × (2 * c.loop-k.k + 1 < length c.args.lines.now) =
-    let m = c.requires.n_bound in
-    let l = c.requires.n_in_bounds in
-    let t = c.loop-k-test.true in
-    (omega arith, omega arith) in
-    let h = inside.0 in record { fits = omega arith }
-
-pub offset_bounds-lines-k-in-loop-k : goal.offset_bounds-lines-k-in-loop-k
-offset_bounds-lines-k-in-loop-k c =
-    let inside : (c.loop-k.k < 200) × (2 * c.loop-k.k + 1 < length c.args.lines.now) =
-    let m = c.requires.n_bound in
-    let l = c.requires.n_in_bounds in
-    let t = c.loop-k-test.true in
-    (omega arith, omega arith) in
-    let h = inside.0 in record { fits = omega arith }
-
-pub bounds-lines-k-in-loop-k : goal.bounds-lines-k-in-loop-k
-bounds-lines-k-in-loop-k c =
-    let inside : (c.loop-k.k < 200) × (2 * c.loop-k.k + 1 < length c.args.lines.now) =
-    let m = c.requires.n_bound in
-    let l = c.requires.n_in_bounds in
-    let t = c.loop-k-test.true in
-    (omega arith, omega arith) in
-    inside.1
 
 pub write_pair-w-requires : goal.write_pair-w-requires
 write_pair-w-requires c = let a = c.args in
@@ -106,44 +26,6 @@ write_pair-w-requires c = let a = c.args in
           a.start _ _ _ _ _ _ c.loop-k.invariant c.requires.sends.taken c.requires.n_bound;
     }
 
-pub overflow_add-k-in-loop-k : goal.overflow_add-k-in-loop-k
-overflow_add-k-in-loop-k c =
-    let inside : (c.loop-k.k < 200) × (2 * c.loop-k.k + 1 < length c.args.lines.now) =
-    let m = c.requires.n_bound in
-    let l = c.requires.n_in_bounds in
-    let t = c.loop-k-test.true in
-    (omega arith, omega arith) in
-    let h = inside.0 in record { fits = omega arith }
-
-pub overflow_mul-bytes : goal.overflow_mul-bytes
-overflow_mul-bytes c = let h = c.requires.bytes_bound in record { fits = omega arith }
-
-pub overflow_sub-c : goal.overflow_sub-c
-overflow_sub-c c =
-    let ends : (3 ≤ c.write_pair-w.result.coder.at) × (c.write_pair-w.result.coder.at ≤ 431) × (c.write_pair-w.result.side.at ≤ 3228) =
-    pair_ends c.loop-k.invariant.sends c.write_pair-w.ensures.sends_2 in
-    ends.0
-
-pub overflow_mul-c : goal.overflow_mul-c
-overflow_mul-c c =
-    let ends : (3 ≤ c.write_pair-w.result.coder.at) × (c.write_pair-w.result.coder.at ≤ 431) × (c.write_pair-w.result.side.at ≤ 3228) =
-    pair_ends c.loop-k.invariant.sends c.write_pair-w.ensures.sends_2 in
-    let h = ends.1 in record { fits = omega arith }
-
-pub overflow_add-c : goal.overflow_add-c
-overflow_add-c c =
-    let ends : (3 ≤ c.write_pair-w.result.coder.at) × (c.write_pair-w.result.coder.at ≤ 431) × (c.write_pair-w.result.side.at ≤ 3228) =
-    pair_ends c.loop-k.invariant.sends c.write_pair-w.ensures.sends_2 in
-    let h = ends.1 in record { fits = omega arith }
-
-pub overflow_add-c-in-loop-k : goal.overflow_add-c-in-loop-k
-overflow_add-c-in-loop-k c =
-    let ends : (3 ≤ c.write_pair-w.result.coder.at) × (c.write_pair-w.result.coder.at ≤ 431) × (c.write_pair-w.result.side.at ≤ 3228) =
-    pair_ends c.loop-k.invariant.sends c.write_pair-w.ensures.sends_2 in
-    let h = ends.1 in
-    let k = ends.2 in
-    record { fits = omega arith }
-
 pub returns-then-bytes-c : goal.returns-then-bytes-c
 returns-then-bytes-c c =
     let a = c.args in
@@ -155,11 +37,6 @@ returns-then-bytes-c c =
     (bits_are (line_at xs (2 * k)) (small (2 * k))) (bits_are (line_at xs (2 * k + 1)) (small (2 * k + 1)))
     c.write_pair-w.ensures.context_value
     c.write_pair-w.ensures.sent c.if-bytes-c.true
-
-pub loop-k-smaller : goal.loop-k-smaller
-loop-k-smaller c =
-    let h = c.loop-k-test.true in
-    omega arith
 
 pub loop-k-preserved : goal.loop-k-preserved
 loop-k-preserved c =
