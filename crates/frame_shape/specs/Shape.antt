@@ -1,10 +1,8 @@
 -- The shape of the side information (5.4.2.3), field by field in the order of reading, with cause 3. Assumes nothing.
 use Rattle.std.specs.Prelude.{cond, List, ℕ, ◌+◌, ◌-◌, eqb}
-use Rattle.frame_bits.specs.Read.{Read, value, cause}
+use Rattle.frame_bits.specs.Read.{Read}
 use Rattle.frame_bits.specs.Fields.{FieldList, ends, field, any, below, read_list}
 use Rattle.frame_shape.specs.declared.Shape.{Shape}
-use Rattle.frame_shape.specs.declared.ShapeRead.{ShapeRead}
-use Rattle.frame_shape.specs.declared.ShapeRead.TheVariants as shape
 
 -- cause 3: the joint index "at or above 33,460,056 (25 bits) or 16,708,096 (24 bits)", by the mode bit
 abbrev pub joint_end : ℕ → ℕ
@@ -18,7 +16,3 @@ shape_fields =
 
 unfoldable pub shape_of : List ℕ → ℕ → Read ℕ Shape
 shape_of s p = read_list s p shape_fields
-
-abbrev pub shape_given : ShapeRead → Read ℕ Shape
-shape_given (shape.Value q p) = value q p
-shape_given (shape.Cause k) = cause k

@@ -6,10 +6,12 @@
 
 ghost use Rattle.std.specs.Prelude.{◌≡◌, ◌≤◌, ◌<◌};
 ghost use Rattle.frame_settings.specs.Settings.{Sized};
-ghost use Rattle.frame_shape.specs.Shape.{joint_end, shape_of, shape_given};
+ghost use Rattle.frame_bits.specs.Read.{given};
+ghost use Rattle.frame_shape.specs.Shape.{joint_end, shape_of};
 ghost use Rattle.frame_shape.specs.Sound.{GoodShape};
 
-use frame_bits::read_bits;
+use frame_bits::{Step, read_bits};
+use refusals::Cause;
 
 // Document 01's shape: the first and the second five bits, the mode bit, the gain, the sign bit and the joint index.
 #[derive(Clone, Copy)]
@@ -22,28 +24,19 @@ pub struct Shape {
     pub joint: u32,
 }
 
-#[derive(Clone, Copy)]
-pub enum ShapeRead {
-    Value(Shape, usize),
-    Cause(u8),
-}
-
 // Where the joint index ends, by the mode bit.
 pub fn joint_end(mode: usize) -> usize
     ensures value { result ≡ joint_end mode }
     ensures upper_bound { result < 4294967296 }
 {
-    match mode {
-        0 => 33460056,
-        _ => 16708096,
-    }
+    if mode == 0 { 33460056 } else { 16708096 }
 }
 
 // The spectral shape's fields, or cause 3.
-pub fn read_shape(s: &[u8], p: usize) -> ShapeRead
+pub fn read_shape(s: &[u8], p: usize) -> Result<Step<Shape, usize>, Cause>
     requires p_bound { p ≤ 23 }
     requires sized { Sized s.now }
-    ensures result_value { shape_given result ≡ shape_of s.now p }
+    ensures result_value { given result ≡ shape_of s.now p }
     ensures good_shape { GoodShape p result }
 {
     let low = read_bits(s, p, 5);
@@ -53,17 +46,18 @@ pub fn read_shape(s: &[u8], p: usize) -> ShapeRead
     let sign = read_bits(s, gain.next, 1);
     let joint = read_bits(s, sign.next, 25 - mode.value);
     if joint_end(mode.value) <= joint.value {
-        return ShapeRead::Cause(3);
+        return Err(Cause::Joint);
     }
-    ShapeRead::Value(
-        Shape {
-            low: low.value as u8,
-            high: high.value as u8,
-            mode: mode.value as u8,
-            gain: gain.value as u8,
-            sign: sign.value as u8,
-            joint: joint.value as u32,
-        },
-        joint.next,
-    )
+    let shape = Shape {
+        low: low.value as u8,
+        high: high.value as u8,
+        mode: mode.value as u8,
+        gain: gain.value as u8,
+        sign: sign.value as u8,
+        joint: joint.value as u32,
+    };
+    Ok(Step {
+        value: shape,
+        next: joint.next,
+    })
 }

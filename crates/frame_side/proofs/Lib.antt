@@ -1,2 +1,2 @@
--- What each return of the fields' reading says.
+-- The side information behind each of its parts.
 pub mod SideFields

@@ -1,15 +1,11 @@
--- The side information's steps one by one: what its definitions are where each field is read. Assumes nothing.
+-- The side information's parts one after the other: what its definition is behind each, and where one of them is a cause. Assumes
 use mathlib.Core.Path.{◌≡◌, ◌∙◌}
 use mathlib.Core.List.{List}
-use Prim.Native.Nat.{ℕ, ◌+◌, ◌*◌, ◌/◌, ◌≤◌, ◌<◌}
-use native.Mathlib.Omega.{arith}
-use borrow.Author.Tests.{le-leb, lt-leb}
+use Prim.Native.Nat.{ℕ}
 use Rattle.frame_bits.specs.Read.{value, cause}
 use Rattle.frame_bits.specs.Fields.{ends, read_list}
 use Rattle.frame_bits.proofs.FieldLists.{list-behind, list-stops}
-use Rattle.frame_bits.specs.Sound.{GoodField}
-use Rattle.frame_bits.specs.declared.Field.{Field}
-use Rattle.frame_side.specs.Side.{head_of, head_fields, flags_of, flags_fields, second_flag, tail_of, tail_fields}
+use Rattle.frame_side.specs.Side.{head_of, head_fields, flags_of, flags_fields, tail_of, tail_fields}
 use Rattle.frame_side.specs.Side.{side_of, from_flags, from_shape, from_tail}
 use Rattle.frame_shape.specs.Shape.{shape_of, shape_fields}
 use Rattle.frame_settings.specs.Settings.{filters_of}
@@ -19,42 +15,7 @@ use Rattle.frame_side.specs.declared.Flags.{Flags}
 use Rattle.frame_shape.specs.declared.Shape.{Shape}
 use Rattle.frame_side.specs.declared.Tail.{Tail}
 
--- the head: bandwidth b, last pair f, LSB mode m, global gain g
-module _ (s : List ℕ) (r : Setting) (b : Field) (e : GoodField s 0 r.bandwidth b) where
-  pub head-wide : r.index < b.value → head_of s r ≡ cause 1
-  unfolding head_of read_list
-  head-wide k = rw (e.found, le-leb (r.index + 1) b.value (omega arith))
-
-  module _ (k : b.value ≤ r.index) (f : Field) (d : GoodField s b.next r.pair f) where
-    pub head-long : r.lines < 2 * (f.value + 1) → head_of s r ≡ cause 2
-    unfolding head_of read_list
-    head-long l = rw (e.found, lt-leb (r.index + 1) b.value (omega arith), d.found, le-leb (r.lines / 2) f.value (omega arith))
-
-    pub head_done :
-        2 * (f.value + 1) ≤ r.lines → (m g : Field) → GoodField s f.next 1 m → GoodField s m.next 8 g
-        → head_of s r
-        ≡ value (record { bandwidth = b.value; last_line = 2 * (f.value + 1); lsb_mode = m.value; gain = g.value }) g.next
-    unfolding head_of read_list
-    head_done l m g i j =
-        let u : b.value < r.index + 1 = omega arith in
-        let v : f.value < r.lines / 2 = omega arith in
-        rw (e.found, lt-leb (r.index + 1) b.value u, d.found, lt-leb (r.lines / 2) f.value v, i.found, j.found)
-
--- m is the setting's filters, n the bits of the second filter's flag
-pub flags-done :
-    (s : List ℕ) (m w p n : ℕ) (a b f : Field) → n ≡ second_flag m w → GoodField s p 1 a → GoodField s a.next n b
-    → GoodField s b.next 1 f
-    → flags_of s m w p ≡ value (record { tns_0 = a.value; tns_1 = b.value; pitch_present = f.value }) f.next
-unfolding flags_of read_list
-flags-done s m w p n a b f k e d i = let j = rw k at d.found in rw (e.found, j, i.found)
-
-pub tail-done :
-    (s : List ℕ) (w p : ℕ) (f t n : Field) → GoodField s p w f → GoodField s f.next (9 * w) t → GoodField s t.next 3 n
-    → tail_of s w p ≡ value (record { filter_flag = f.value; pitch_index = t.value; noise_level = n.value }) n.next
-unfolding tail_of read_list
-tail-done s w p f t n e d i = rw (e.found, d.found, i.found)
-
--- the whole, and its two ways to a cause
+-- two ways to a cause, and the whole
 pub side-head : (s : List ℕ) (r : Setting) (k : ℕ) → head_of s r ≡ cause k → side_of s r ≡ cause k
 unfolding side_of head_of
 side-head s r k e = list-stops s 0 (head_fields r) (from_flags (filters_of r.duration)) k e

@@ -1,7 +1,7 @@
 -- The side information (5.4.2.3): one list of fields in the order of the frame, with causes 1 and 2, and 3 from the shape. A field that is
 -- not sent is one of no bits. Assumes nothing.
 use Rattle.std.specs.Prelude.{cond, List, ℕ, ◌+◌, ◌-◌, ◌*◌, ◌/◌, ltb}
-use Rattle.frame_bits.specs.Read.{Read, value, cause}
+use Rattle.frame_bits.specs.Read.{Read}
 use Rattle.frame_bits.specs.Fields.{FieldList, ends, field, any, below, followed, read_list}
 use Rattle.frame_settings.specs.Settings.{filters_of}
 use Rattle.frame_settings.specs.declared.Setting.{Setting}
@@ -9,10 +9,6 @@ use Rattle.frame_side.specs.declared.Head.{Head}
 use Rattle.frame_side.specs.declared.Flags.{Flags}
 use Rattle.frame_side.specs.declared.Tail.{Tail}
 use Rattle.frame_side.specs.declared.Side.{Side}
-use Rattle.frame_side.specs.declared.HeadRead.{HeadRead}
-use Rattle.frame_side.specs.declared.HeadRead.TheVariants as head
-use Rattle.frame_side.specs.declared.SideRead.{SideRead}
-use Rattle.frame_side.specs.declared.SideRead.TheVariants as side
 use Rattle.frame_shape.specs.Shape.{shape_fields}
 use Rattle.frame_shape.specs.declared.Shape.{Shape}
 
@@ -67,11 +63,3 @@ side_fields r = followed (head_fields r) (from_flags (filters_of r.duration))
 
 unfoldable pub side_of : List ℕ → Setting → Read ℕ Side
 side_of s r = read_list s 0 (side_fields r)
-
-abbrev pub head_given : HeadRead → Read ℕ Head
-head_given (head.Value h p) = value h p
-head_given (head.Cause k) = cause k
-
-abbrev pub side_given : SideRead → Read ℕ Side
-side_given (side.Value v p) = value v p
-side_given (side.Cause k) = cause k

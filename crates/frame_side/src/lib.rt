@@ -6,14 +6,15 @@
 
 ghost use Rattle.std.specs.Prelude.{◌≡◌, ◌≤◌, ◌<◌};
 ghost use Rattle.frame_settings.specs.Settings.{Known, Sized};
-ghost use Rattle.frame_side.specs.Side.{head_of, head_given, last_pair, second_flag, side_of, side_given};
+ghost use Rattle.frame_bits.specs.Read.{given};
+ghost use Rattle.frame_side.specs.Side.{head_of, last_pair, second_flag, side_of};
 ghost use Rattle.frame_side.specs.Sound.{GoodHead, GoodFlags, GoodTail, GoodSide};
 
-use frame_bits::read_bits;
+use frame_bits::{Step, read_bits};
 use frame_settings::{Setting, tns_filters};
 pub use frame_shape::Shape;
-use frame_shape::{ShapeRead, read_shape};
-use widening::wide;
+use frame_shape::read_shape;
+use refusals::Cause;
 
 #[derive(Clone, Copy)]
 pub struct Head {
@@ -46,68 +47,40 @@ pub struct Side {
     pub tail: Tail,
 }
 
-#[derive(Clone, Copy)]
-pub enum HeadRead {
-    Value(Head, usize),
-    Cause(u8),
-}
-
-// The flags with the next cursor.
-#[derive(Clone, Copy)]
-pub struct FlagsRead {
-    pub flags: Flags,
-    pub next: usize,
-}
-
-// The tail with the next cursor.
-#[derive(Clone, Copy)]
-pub struct TailRead {
-    pub tail: Tail,
-    pub next: usize,
-}
-
-#[derive(Clone, Copy)]
-pub enum SideRead {
-    Value(Side, usize),
-    Cause(u8),
-}
-
 // The field of a last line: which pair is the last.
 pub fn last_pair(last: usize) -> usize
     ensures { result ≡ last_pair last }
 {
-    let half = last / 2;
-    if half == 0 { 0 } else { half - 1 }
+    (last / 2).saturating_sub(1)
 }
 
-fn read_head(s: &[u8], r: Setting) -> HeadRead
+fn read_head(s: &[u8], r: Setting) -> Result<Step<Head, usize>, Cause>
     requires known { Known r }
     requires sized { Sized s.now }
-    ensures result_value { head_given result ≡ head_of s.now r }
+    ensures result_value { given result ≡ head_of s.now r }
     ensures good_head { GoodHead r result }
 {
-    let index = r.index;
-    let lines = r.lines;
     let bandwidth = read_bits(s, 0, r.bandwidth);
-    if index < bandwidth.value {
-        return HeadRead::Cause(1);
+    if r.index < bandwidth.value {
+        return Err(Cause::Bandwidth);
     }
     let pair = read_bits(s, bandwidth.next, r.pair);
     let last_line = 2 * (pair.value + 1);
-    if lines < last_line {
-        return HeadRead::Cause(2);
+    if r.lines < last_line {
+        return Err(Cause::LastLine);
     }
     let lsb_mode = read_bits(s, pair.next, 1);
     let gain = read_bits(s, lsb_mode.next, 8);
-    HeadRead::Value(
-        Head {
-            bandwidth: bandwidth.value as u8,
-            last_line: last_line as u16,
-            lsb_mode: lsb_mode.value as u8,
-            gain: gain.value as u8,
-        },
-        gain.next,
-    )
+    let head = Head {
+        bandwidth: bandwidth.value as u8,
+        last_line: last_line as u16,
+        lsb_mode: lsb_mode.value as u8,
+        gain: gain.value as u8,
+    };
+    Ok(Step {
+        value: head,
+        next: gain.next,
+    })
 }
 
 // The bits of the second filter's flag.
@@ -120,7 +93,7 @@ pub fn second_flag(filters: usize, bandwidth: usize) -> usize
     if bandwidth < 3 { 0 } else { filters - 1 }
 }
 
-fn read_flags(s: &[u8], filters: usize, bandwidth: usize, p: usize) -> FlagsRead
+fn read_flags(s: &[u8], filters: usize, bandwidth: usize, p: usize) -> Step<Flags, usize>
     requires le_filters { 1 ≤ filters }
     requires filters_bound { filters ≤ 2 }
     requires p_bound { p ≤ 20 }
@@ -130,8 +103,8 @@ fn read_flags(s: &[u8], filters: usize, bandwidth: usize, p: usize) -> FlagsRead
     let tns_0 = read_bits(s, p, 1);
     let tns_1 = read_bits(s, tns_0.next, second_flag(filters, bandwidth));
     let pitch_present = read_bits(s, tns_1.next, 1);
-    FlagsRead {
-        flags: Flags {
+    Step {
+        value: Flags {
             tns_0: tns_0.value as u8,
             tns_1: tns_1.value as u8,
             pitch_present: pitch_present.value as u8,
@@ -140,7 +113,7 @@ fn read_flags(s: &[u8], filters: usize, bandwidth: usize, p: usize) -> FlagsRead
     }
 }
 
-fn read_tail(s: &[u8], pitch: usize, p: usize) -> TailRead
+fn read_tail(s: &[u8], pitch: usize, p: usize) -> Step<Tail, usize>
     requires pitch_bound { pitch < 2 }
     requires p_bound { p ≤ 61 }
     requires sized { Sized s.now }
@@ -149,8 +122,8 @@ fn read_tail(s: &[u8], pitch: usize, p: usize) -> TailRead
     let filter_flag = read_bits(s, p, pitch);
     let pitch_index = read_bits(s, filter_flag.next, 9 * pitch);
     let noise_level = read_bits(s, pitch_index.next, 3);
-    TailRead {
-        tail: Tail {
+    Step {
+        value: Tail {
             filter_flag: filter_flag.value as u8,
             pitch_index: pitch_index.value as u16,
             noise_level: noise_level.value as u8,
@@ -160,33 +133,25 @@ fn read_tail(s: &[u8], pitch: usize, p: usize) -> TailRead
 }
 
 // The side information, or cause 1, 2 or 3.
-pub fn read_side(s: &[u8], r: Setting) -> SideRead
+pub fn read_side(s: &[u8], r: Setting) -> Result<Step<Side, usize>, Cause>
     requires known { Known r }
     requires sized { Sized s.now }
-    ensures result_value { side_given result ≡ side_of s.now r }
+    ensures result_value { given result ≡ side_of s.now r }
     ensures good_side { GoodSide r result }
 {
-    match read_head(s, r) {
-        HeadRead::Cause(k) => SideRead::Cause(k),
-        HeadRead::Value(head, p) => {
-            let f = read_flags(s, tns_filters(r.duration), wide(head.bandwidth), p);
-            let flags = f.flags;
-            match read_shape(s, f.next) {
-                ShapeRead::Cause(k) => SideRead::Cause(k),
-                ShapeRead::Value(shape, q) => {
-                    let t = read_tail(s, wide(flags.pitch_present), q);
-                    let tail = t.tail;
-                    SideRead::Value(
-                        Side {
-                            head,
-                            flags,
-                            shape,
-                            tail,
-                        },
-                        t.next,
-                    )
-                }
-            }
-        }
-    }
+    let head = read_head(s, r)?;
+    let bandwidth = usize::from(head.value.bandwidth);
+    let flags = read_flags(s, tns_filters(r.duration), bandwidth, head.next);
+    let shape = read_shape(s, flags.next)?;
+    let tail = read_tail(s, usize::from(flags.value.pitch_present), shape.next);
+    let side = Side {
+        head: head.value,
+        flags: flags.value,
+        shape: shape.value,
+        tail: tail.value,
+    };
+    Ok(Step {
+        value: side,
+        next: tail.next,
+    })
 }

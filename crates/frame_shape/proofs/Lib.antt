@@ -1,2 +1,0 @@
--- What each return of the shape's reading says.
-pub mod ShapeFields
