@@ -3,25 +3,27 @@
 use mathlib.Core.Path.{◌≡◌, refl, sym, ap, ◌∙◌, subst}
 use mathlib.Core.Bool.{Bool, true, false, cond}
 use mathlib.Core.List.{List}
-use Prim.Native.Nat.{ℕ, suc, ◌+◌, ◌-◌, ◌*◌, ◌/◌, ◌%◌, ◌^◌, ◌≤◌, ◌<◌}
+use Prim.Native.Nat.{ℕ, suc, ◌+◌, ◌-◌, ◌*◌, ◌/◌, ◌%◌, ◌^◌, ◌≤◌, ◌<◌, min}
 use native.Mathlib.Omega.{arith}
-use native.Mathlib.Nat.{two-pow-succ, mul-le-mul, mul-le-mul_right}
+use native.Mathlib.Nat.{mul-le-mul, mul-le-mul_right}
 use native.Mathlib.Numerals.{add-one}
-use lib.Dec.{ltb, leb}
+use lib.Dec.{ltb}
 use lib.ListN.{length, get_or}
-use lib.Pow.{pow_mono, shl_exact}
-use borrow.Author.Tests.{ltb-true, leb-true, leb-false, lt-ltb, le-ltb, le-leb, lt-leb, eq-eqb, ne_eqb}
+use lib.Pow.{pow_mono}
+use borrow.Author.Tests.{ltb-true, ltb-false, lt-ltb, le-ltb, eq-eqb, ne_eqb}
 use Rattle.coder_tables.specs.Layout.{by_level}
 use Rattle.coder_tables.specs.Rows.{Row, SpectrumTables}
 use Rattle.coder_tables.proofs.LayoutRules.{by-level-at}
-use Rattle.frame_bits.specs.Read.{value, cause}
-use Rattle.frame_bits.specs.Bits.{read_bit}
+use Rattle.std.specs.Prelude.{Result, Ok, Err}
+use Rattle.refusals.specs.declared.Cause.{Cause}
+use Rattle.refusals.specs.Numbers.{cause_number}
+use Rattle.frame_bits.specs.declared.Step.{Step}
+use Rattle.frame_bits.specs.Read.{value, cause, given}
+use Rattle.frame_bits.specs.Bits.{bit_of, read_bit}
+use Rattle.frame_bits.specs.Sound.{GoodBit}
 use Rattle.frame_coder.specs.Symbol.{symbol_of}
 use Rattle.frame_pair.specs.Pair.{capped, row_of, plane_of, last_of, sign_of, context_of, signed_of, pair_of}
 use Rattle.frame_pair.specs.Sound.{Built, Room, GoodSign}
-use Rattle.frame_bits.specs.Sound.{GoodBit}
-use Rattle.frame_bits.specs.declared.Bit.{Bit}
-use Rattle.frame_bits.specs.declared.Bit.TheVariants as bit
 use Rattle.frame_coder.specs.declared.Coder.{Coder}
 use Rattle.frame_pair.specs.declared.Last.{Last}
 
@@ -29,51 +31,6 @@ use Rattle.frame_pair.specs.declared.Last.{Last}
 
 pub times_power : (a level : ℕ) → a ≤ 3 → a * 2 ^ level ≤ 3 * 2 ^ level
 times_power a level h = mul-le-mul_right (2 ^ level) h
-
--- a shift inside the word loses nothing
-pub shl_is : (a level : ℕ) → a < 4 → level ≤ 13 → a * 2 ^ level % 18446744073709551616 ≡ a * 2 ^ level
-shl_is a level h l = shl_exact 2 level 64 h (omega arith)
-
-pub above-small : (x a level : ℕ) → x < 2 ^ level → a < 4 → level ≤ 13 → x + a * 2 ^ level ≤ 32767
-above-small x a level u h l =
-    let w : 2 ^ level ≤ 8192 = pow_mono l in
-    let m = times_power a level (omega arith) in
-    omega arith
-
-power-next : (level : ℕ) → 2 ^ (level + 1) ≡ 2 ^ level + 2 ^ level
-power-next level = ap (λ (k : ℕ). 2 ^ k) (add-one level) ∙ two-pow-succ level
-
-grown-by : (lsb level x a : ℕ) → Built lsb level x → a < 2 → lsb ≤ level → (t : Bool) → leb 1 level ≡ t
-    → x + a * 2 ^ level + 1 + lsb ≤ 2 ^ (level + 1)
-grown-by lsb level x a b h k true e =
-    let p = power-next level in
-    let m : a * 2 ^ level ≤ 1 * 2 ^ level = mul-le-mul_right (2 ^ level) (omega arith) in
-    let u = b.1 (leb-true 1 level e) in
-    omega arith
-grown-by lsb level x a b h k false e =
-    let p = power-next level in
-    let m : a * 2 ^ level ≤ 1 * 2 ^ level = mul-le-mul_right (2 ^ level) (omega arith) in
-    let z = leb-false 1 level e in
-    let u = b.0 in
-    omega arith
-
--- an escape's bit goes on top
-pub grown : (lsb level x a : ℕ) → Built lsb level x → a < 2 → lsb ≤ level → Built lsb (level + 1) (x + a * 2 ^ level)
-grown lsb level x a b h k =
-    let g = grown-by lsb level x a b h k (leb 1 level) refl in
-    (omega arith, λ w. g)
-
--- the bit that comes late leaves its place free
-pub delayed : (lsb level x : ℕ) → lsb < 2 → level < lsb → Built lsb level x → Built lsb (level + 1) x
-delayed lsb level x h k b =
-    let z : level ≡ 0 = omega arith in
-    let o : 2 ^ level ≡ 1 = ap (λ (k : ℕ). 2 ^ k) z in
-    let p = power-next level in
-    let u = b.0 in
-    (omega arith, λ w. omega arith)
-
-pub built-none : (lsb : ℕ) → Built lsb 0 0
-built-none lsb = (omega arith, λ w. absurd (omega arith))
 
 -- behind the last symbol a value is whole, up to the late bit
 pub room : (lsb level x a : ℕ) → Built lsb level x → a < 4 → level ≤ 13 → Room lsb level (x + a * 2 ^ level)
@@ -85,18 +42,19 @@ room lsb level x a b h l =
 
 -- ---- rows and contexts
 
+capped-min-by : (level : ℕ) (t : Bool) → ltb level 3 ≡ t → min level 3 ≡ cond t level 3
+capped-min-by level true e = let h = ltb-true level 3 e in omega arith
+capped-min-by level false e = let h = ltb-false level 3 e in omega arith
+
+pub capped-min : (level : ℕ) → min level 3 ≡ capped level
+capped-min level = capped-min-by level (ltb level 3) refl
+
 capped-by : (level : ℕ) (t : Bool) → ltb level 3 ≡ t → cond t level 3 ≤ 3
 capped-by level true e = let h = ltb-true level 3 e in omega arith
 capped-by level false e = omega arith
 
 pub capped_le : (level : ℕ) → capped level ≤ 3
 capped_le level = capped-by level (ltb level 3) refl
-
-pub capped-low : (level : ℕ) → level < 3 → level ≡ capped level
-capped-low level h = rw (lt-ltb level 3 h)
-
-pub capped-high : (level : ℕ) → 3 ≤ level → 3 ≡ capped level
-capped-high level h = rw (le-ltb level 3 h)
 
 -- the code's table has the four levels of a context side by side
 pub row_is : (look : List ℕ) (base level l r : ℕ) → base < 1024 → l < 4 → l ≡ capped level → r ≡ get_or look (4 * base + l) 0
@@ -112,16 +70,6 @@ row_at look cum base level r t h e =
 
 pub weight : (a b l : ℕ) → a + b ≤ 6 → l ≤ 1 → (a + b) * (l + 1) ≤ 12
 weight a b l h k = mul-le-mul {n₂ = 6} {m₂ = 2} h (omega arith)
-
-pub context-low : (c a b level l : ℕ) → l ≡ capped level → l ≤ 1 → c % 16 * 16 + (1 + (a + b) * (l + 1)) ≡ context_of c a b level
-context-low c a b level l e h =
-    subst (λ (k : ℕ). c % 16 * 16 + (1 + (a + b) * (l + 1)) ≡ c % 16 * 16 + cond (leb k 1) (1 + (a + b) * (k + 1)) (12 + k)) e
-    (rw (le-leb l 1 h))
-
-pub context-high : (c a b level l : ℕ) → l ≡ capped level → 1 < l → c % 16 * 16 + (12 + l) ≡ context_of c a b level
-context-high c a b level l e h =
-    subst (λ (k : ℕ). c % 16 * 16 + (12 + l) ≡ c % 16 * 16 + cond (leb k 1) (1 + (a + b) * (k + 1)) (12 + k)) e
-    (rw (lt-leb l 1 h))
 
 -- ---- an escape's bits
 
@@ -185,9 +133,18 @@ pub sign-some : (s : List ℕ) (m p : ℕ) → (m ≡ 0 → ⊥) → sign_of s m
 unfolding sign_of
 sign-some s m p e = rw (ne_eqb m 0 e)
 
-pub sign-good : (s : List ℕ) (p : ℕ) (r : Bit) → GoodBit s p r → GoodSign r
-sign-good s p (bit.Value v q) g = g.0
-sign-good s p bit.Outside g = g
+-- what ends at a bit is cause 6
+pub bit-cause : (s : List ℕ) (p k : ℕ) → cause k ≡ read_bit s p → k ≡ 6
+unfolding read_bit
+bit-cause s p k e = go (ltb p (8 * length s)) e
+  where
+    go : (t : Bool) → cause k ≡ cond t (value (bit_of s p) (p + 1)) (cause 6) → k ≡ 6
+    go true e = absurd (cc)
+    go false e = cc
+
+pub sign-good : (s : List ℕ) (p : ℕ) (r : Result (Step ℕ ℕ) Cause) → given r ≡ read_bit s p → GoodBit s p r → GoodSign r
+sign-good s p (Ok sign) e g = g.0
+sign-good s p (Err why) e g = bit-cause s p (cause_number why) e
 
 -- ---- the pair behind its last symbol
 

@@ -5,19 +5,10 @@ use Rattle.frame_bits.specs.Read.{Read, value, cause, and_then}
 use Rattle.frame_bits.specs.Bits.{read_bit}
 use Rattle.frame_coder.specs.Symbol.{symbol_of}
 use Rattle.frame_coder.specs.declared.Coder.{Coder}
-use Rattle.frame_pair.specs.declared.Plane.{Plane}
-use Rattle.frame_pair.specs.declared.Plane.TheVariants as plane
 use Rattle.frame_pair.specs.declared.Last.{Last}
-use Rattle.frame_pair.specs.declared.LastRead.{LastRead}
-use Rattle.frame_pair.specs.declared.LastRead.TheVariants as last_read
 use Rattle.frame_pair.specs.declared.Pair.{Pair}
-use Rattle.frame_pair.specs.declared.PairRead.{PairRead}
-use Rattle.frame_pair.specs.declared.PairRead.TheVariants as pair_read
-
--- the cursor of both streams
-pub record Streams : Type 0 where
-  pub coder : Coder
-  pub side : ℕ
+pub use Rattle.frame_pair.specs.declared.Streams.{Streams}
+pub use Rattle.frame_pair.specs.declared.Values.{Values}
 
 -- min (level, 3)
 abbrev pub capped : ℕ → ℕ
@@ -26,11 +17,6 @@ capped level = cond (ltb level 3) level 3
 -- the row that the lookup names: 18 entries a row
 abbrev pub row_of : List ℕ → ℕ → ℕ → ℕ
 row_of look base level = get_or look (base + 1024 * capped level) 0 * 18
-
--- the two values so far
-pub record Values : Type 0 where
-  pub x : ℕ
-  pub y : ℕ
 
 -- an escape's bits, one for each value; none at level 0 in LSB mode 1
 unfoldable pub plane_of : List ℕ → ℕ → ℕ → ℕ → ℕ → ℕ → Read ℕ Values
@@ -78,15 +64,3 @@ unfoldable pub pair_of : List ℕ → List ℕ → List ℕ → ℕ → ℕ → 
 pair_of s look cum lsb base context c p =
     and_then (last_of s look cum lsb base 14 0 0 0 c p) (λ l k.
     signed_of s context (l.x + l.symbol % 4 * 2 ^ l.level) (l.y + l.symbol / 4 * 2 ^ l.level) l k.coder k.side)
-
-abbrev pub plane_given : Plane → Read ℕ Values
-plane_given (plane.Value x y p) = value (record { x = x; y = y }) p
-plane_given plane.Outside = cause 6
-
-abbrev pub last_given : LastRead → Read Streams Last
-last_given (last_read.Value l c p) = value l (record { coder = c; side = p })
-last_given (last_read.Cause k) = cause k
-
-abbrev pub pair_given : PairRead → Read Streams Pair
-pair_given (pair_read.Value q c p) = value q (record { coder = c; side = p })
-pair_given (pair_read.Cause k) = cause k

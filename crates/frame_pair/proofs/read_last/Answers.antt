@@ -1,135 +1,52 @@
 -- `frame_pair::read_last` meets its contract. The loop has the rest of the escapes equal to the whole. Assumes nothing.
-use mathlib.Core.Path.{◌≡◌, refl, sym, ◌∙◌}
-use Prim.Native.Nat.{◌+◌, ◌≤◌}
+use mathlib.Core.Path.{sym, ◌∙◌}
 use native.Mathlib.Omega.{arith}
+use Rattle.std.proofs.lemmas.Result.{err_from_is_err_and}
 use Rattle.coder_tables.specs.Layout.{by_level}
-use Rattle.frame_bits.specs.Read.{value}
-use Rattle.frame_coder.specs.Symbol.{symbol_of, symbol_given}
-use Rattle.frame_pair.specs.Pair.{row_of}
-use Rattle.frame_coder.specs.Sound.{Sound}
-use Rattle.frame_pair.proofs.Escaping.{built-none, row_at, last_none, last-stop, last_found, last_out, last_more}
+use Rattle.frame_pair.proofs.Escaping.{row_at, last_none, last-stop, last_found, last_out, last_more}
 use Rattle.frame_pair.proofs.read_last.Goals as goal
 
-pub loop-level-init : goal.loop-level-init
-loop-level-init c =
-    (omega arith, built-none c.args.lsb, built-none c.args.lsb, omega arith, c.requires.ready.sound, refl)
-
-pub row_of-requires : goal.row_of-requires
-row_of-requires c = record {
-  look_len = c.requires.pair_tables.looks;
-  base_bound = c.requires.base_bound;
+pub decode-requires-clause-symbol_row : goal.decode-requires-clause-symbol_row
+decode-requires-clause-symbol_row c = let a = c.args in record {
+  row = row_at (by_level a.look.now) a.cum.now a.base c.loop-level.level c.row_of.result c.requires.pair_tables.rows
+      c.requires.base_bound c.row_of.ensures.value;
+  place = c.row_of.ensures.upper_bound;
+  short = omega arith;
 }
 
-pub decode-requires : goal.decode-requires
-decode-requires c = let l = c.loop-level in
-    let a = c.args in
-    record {
-      ready = record {
-        sized = c.requires.ready.sized;
-        sound = l.invariant.4;
-        taken = omega
-            (arith, l.invariant.3, l.invariant.0, c.requires.ready.taken);
-      };
-      symbol_row = record {
-        row = row_at (by_level a.look.now) a.cum.now a.base l.level c.row_of.result c.requires.pair_tables.rows c.requires.base_bound
-            c.row_of.ensures.value;
-        place = c.row_of.ensures.upper_bound;
-        short = omega arith;
-      };
-    }
+pub returns-in_err-got-clause-result_value : goal.returns-in_err-got-clause-result_value
+returns-in_err-got-clause-result_value c =
+    let p = err_from_is_err_and c.from_residual.result c.from_residual.ensures.1 in
+    let e = rw c.row_of.ensures.value at (sym c.in_err-got.ensures.result_value) in
+    rw (p.1, p.2) (sym (last-stop _ _ _ _ _ _ _ _ _ _ _ c.loop-level-test.true e) ∙ c.loop-level.invariant.4)
 
-pub returns-in-Cause : goal.returns-in-Cause
-returns-in-Cause c =
-    let found : let l = c.loop-level in symbol_given c.decode.result ≡ symbol_of c.args.s.now c.args.cum.now
-    (row_of (by_level c.args.look.now) c.args.base l.level) 16 l.c =
-    rw c.row_of.ensures.value at c.decode.ensures.result_value in
-    let l = c.loop-level in
-    let f = rw c.in-Cause.is at found in
-    record {
-      result_value = sym (last-stop _ _ _ _ _ _ _ _ _ _ _ c.loop-level-test.true (sym f)) ∙ l.invariant.5;
-      good_last = rw c.in-Cause.is at c.decode.ensures.good_symbol;
-    }
+pub returns-then-got-lt16-clause-result_value : goal.returns-then-got-lt16-clause-result_value
+returns-then-got-lt16-clause-result_value c =
+    let known = rw c.row_of.ensures.value at (sym c.in_ok-got.ensures.result_value) in
+    sym (last_found _ _ _ _ _ _ _ _ _ _ _ _ c.loop-level-test.true known c.if-got-lt16.true) ∙ c.loop-level.invariant.4
 
-pub returns-then-v-lt16 : goal.returns-then-v-lt16
-returns-then-v-lt16 c =
-    let found : let l = c.loop-level in symbol_given c.decode.result ≡ symbol_of c.args.s.now c.args.cum.now
-    (row_of (by_level c.args.look.now) c.args.base l.level) 16 l.c =
-    rw c.row_of.ensures.value at c.decode.ensures.result_value in
-    let known : let l = c.loop-level in symbol_of c.args.s.now c.args.cum.now (row_of (by_level c.args.look.now) c.args.base l.level)
-    16 l.c ≡ value c.in-Value.v c.in-Value.next =
-    sym (rw c.in-Value.is at found) in
-    let good : let l = c.loop-level in (c.in-Value.v ≤ 16) × (c.in-Value.next.taken ≡ l.c.taken + 1) × Sound c.args.s.now
-    c.in-Value.next =
-    rw c.in-Value.is at c.decode.ensures.good_symbol in
-    let l = c.loop-level in
-    let g = good in record {
-      result_value = sym (last_found _ _ _ _ _ _ _ _ _ _ _ _
-          c.loop-level-test.true known c.if-v-lt16.true) ∙ l.invariant.5;
-      good_last = (
-        c.if-v-lt16.true,
-        omega (arith, c.loop-level-test.true),
-        l.invariant.1,
-        l.invariant.2,
-        omega
-            (arith, g.1, l.invariant.3, c.loop-level-test.true),
-        g.2,
-      );
-    }
-
-pub read_plane-got-requires : goal.read_plane-got-requires
-read_plane-got-requires c = let l = c.loop-level in
-    record {
-      sized = c.requires.ready.sized;
-      escaped = record {
-        mode = c.requires.lsb_bound;
-        few = omega (arith, c.loop-level-test.true);
-        first = l.invariant.1;
-        second =
-            l.invariant.2;
-      };
-    }
-
-pub returns-in_default : goal.returns-in_default
-returns-in_default c =
-    let found : let l = c.loop-level in symbol_given c.decode.result ≡ symbol_of c.args.s.now c.args.cum.now
-    (row_of (by_level c.args.look.now) c.args.base l.level) 16 l.c =
-    rw c.row_of.ensures.value at c.decode.ensures.result_value in
-    let known : let l = c.loop-level in symbol_of c.args.s.now c.args.cum.now (row_of (by_level c.args.look.now) c.args.base l.level)
-    16 l.c ≡ value c.in-Value.v c.in-Value.next =
-    sym (rw c.in-Value.is at found) in
-    let l = c.loop-level in
-    let f = rw c.in_default.is at c.read_plane-got.ensures.result_value in record {
-      result_value = sym (last_out _ _ _ _ _ _ _ _ _ _ _ _ _ c.loop-level-test.true known c.if-v-lt16.false (sym f)) ∙ l.invariant.5;
-      good_last = (omega arith, omega arith);
-    }
+pub returns-in_err-plane-clause-result_value : goal.returns-in_err-plane-clause-result_value
+returns-in_err-plane-clause-result_value c =
+    let p = err_from_is_err_and c.from_residual-in_err-plane.result c.from_residual-in_err-plane.ensures.1 in
+    let known = rw c.row_of.ensures.value at (sym c.in_ok-got.ensures.result_value) in
+    let e = sym c.in_err-plane.ensures.result_value in
+    rw (p.1, p.2)
+    (sym (last_out _ _ _ _ _ _ _ _ _ _ _ _ _ c.loop-level-test.true known c.if-got-lt16.false e) ∙ c.loop-level.invariant.4)
 
 pub loop-level-preserved : goal.loop-level-preserved
 loop-level-preserved c =
-    let found : let l = c.loop-level in symbol_given c.decode.result ≡ symbol_of c.args.s.now c.args.cum.now
-    (row_of (by_level c.args.look.now) c.args.base l.level) 16 l.c =
-    rw c.row_of.ensures.value at c.decode.ensures.result_value in
-    let known : let l = c.loop-level in symbol_of c.args.s.now c.args.cum.now (row_of (by_level c.args.look.now) c.args.base l.level)
-    16 l.c ≡ value c.in-Value.v c.in-Value.next =
-    sym (rw c.in-Value.is at found) in
-    let good : let l = c.loop-level in (c.in-Value.v ≤ 16) × (c.in-Value.next.taken ≡ l.c.taken + 1) × Sound c.args.s.now
-    c.in-Value.next =
-    rw c.in-Value.is at c.decode.ensures.good_symbol in
-    let l = c.loop-level in
-    let f = rw c.in-Value-got.is at c.read_plane-got.ensures.result_value in
-    let b = rw c.in-Value-got.is at c.read_plane-got.ensures.good_plane in
-    let g = good in (
-      omega (arith, c.loop-level-test.true),
+    let known = rw c.row_of.ensures.value at (sym c.in_ok-got.ensures.result_value) in
+    let g = c.in_ok-got.ensures.good_symbol in
+    let t = g.1 in
+    let b = c.in_ok-plane.ensures.good_plane in
+    let e = sym c.in_ok-plane.ensures.result_value in (
       b.0,
       b.1,
-      omega (arith, g.1, l.invariant.3),
+      omega arith,
       g.2,
-      last_more _ _ _ _ _ _ _ _ _ _ _ _ _ _ _
-          c.loop-level-test.true known c.if-v-lt16.false (sym f) ∙ l.invariant.5,
+      last_more _ _ _ _ _ _ _ _ _ _ _ _ _ _ _ c.loop-level-test.true known c.if-got-lt16.false e ∙ c.loop-level.invariant.4,
     )
 
-pub returns : goal.returns
-returns c = let l = c.loop-level in record {
-  result_value = sym (last_none _ _ _ _ _ _ _ _ _ _ c.loop-level-test.false)
-      ∙ l.invariant.5;
-  good_last = (omega arith, omega arith);
-}
+pub returns-clause-result_value : goal.returns-clause-result_value
+returns-clause-result_value c =
+    sym (last_none _ _ _ _ _ _ _ _ _ _ c.loop-level-test.false) ∙ c.loop-level.invariant.4

@@ -9,9 +9,6 @@ use Rattle.frame_pair.proofs.read_last.Given as goal
 
 abbrev pub invariant-loop-level : goal.invariant-loop-level
 invariant-loop-level l =
-    (l.level ≤ 14) × Built l.lsb l.level l.x × Built l.lsb l.level l.y × (l.c.taken ≤ l.initial.c.taken + l.level) × Sound l.s l.c
-    × (last_of l.s (by_level l.look) l.cum l.lsb l.base (14 - l.level) l.level l.x l.y l.c l.p ≡ last_of l.s (by_level l.look) l.cum
-    l.lsb l.base 14 0 0 0 l.initial.c l.initial.p)
-
-abbrev pub decreases-loop-level : goal.decreases-loop-level
-decreases-loop-level l = 14 - l.level
+    Built l.lsb l.level l.v.x × Built l.lsb l.level l.v.y × (l.at.coder.taken ≤ l.fn.from.coder.taken + l.level) × Sound l.s l.at.coder
+    × (last_of l.s (by_level l.look) l.cum l.lsb l.base (14 - l.level) l.level l.v.x l.v.y l.at.coder l.at.side
+    ≡ last_of l.s (by_level l.look) l.cum l.lsb l.base 14 0 0 0 l.fn.from.coder l.fn.from.side)
