@@ -151,28 +151,25 @@ four_is p n a b c d r steps g f l s t t-is t-lt =
 
 -- ---- what the machine's operations ask
 
-pub upper_lt : (n a b c d r : ℕ) → 16 ≤ n → r < 2 ^ n
-    → 48 + bit_xor (r / 2 ^ (n - 16)) (a % 16 + 16 * (b % 16) + 256 * (c % 16) + 4096 * (d % 16)) / 4096 < 64
-upper_lt n a b c d r f l =
-    let g = place-lt n 16 (a % 16 + 16 * (b % 16) + 256 * (c % 16) + 4096 * (d % 16)) r f l (omega arith) in
-    omega arith
+pub upper_lt : (n w r : ℕ) → 16 ≤ n → r < 2 ^ n → w < 65536 → 48 + bit_xor (r / 2 ^ (n - 16)) w / 4096 < 64
+upper_lt n w r f l h = let g = place-lt n 16 w r f l h in omega arith
 
 -- the value in the machine's operations
-pub four-step : (p n a b c d r t v : ℕ) (steps : List ℕ) → Stepped p n steps → r < 2 ^ n
-    → t ≡ bit_xor (r / 2 ^ (n - 16)) (a % 16 + 16 * (b % 16) + 256 * (c % 16) + 4096 * (d % 16))
+pub four-step : (p n a b c d r w t v : ℕ) (steps : List ℕ) → Stepped p n steps → r < 2 ^ n
+    → w ≡ a % 16 + 16 * (b % 16) + 256 * (c % 16) + 4096 * (d % 16) → t ≡ bit_xor (r / 2 ^ (n - 16)) w
     → v ≡ bit_xor (bit_xor (r % (1 * 2 ^ (n - 16) % 4294967296) * 65536)
     (bit_xor (get_or steps (48 + t / 4096) 0) (get_or steps (32 + t / 256 % 16) 0)))
     (bit_xor (get_or steps (16 + t / 16 % 16) 0) (get_or steps (t % 16) 0))
     → (v ≡ semi_pushed p n a (semi_pushed p n b (semi_pushed p n c (semi_pushed p n d r)))) × (v < 2 ^ n)
 unfolding sum
-four-step p n a b c d r t v steps s l t-is e =
+four-step p n a b c d r w t v steps s l w-is t-is e =
     let g = s.divisor.degree in
-    let y : t < 65536 = rw t-is (place-lt n 16 _ r s.from l (omega arith)) in
+    let y : t < 65536 = rw t-is (place-lt n 16 w r s.from l (omega arith)) in
     let x : v ≡ semi_pushed p n a (semi_pushed p n b (semi_pushed p n c (semi_pushed p n d r))) =
     e ∙ ap
     (λ (y : ℕ). bit_xor (bit_xor (r % y * 65536) (bit_xor (get_or steps (48 + t / 4096) 0) (get_or steps (32 + t / 256 % 16) 0)))
     (bit_xor (get_or steps (16 + t / 16 % 16) 0) (get_or steps (t % 16) 0)))
     (one_shifted n 16 s.divisor.to)
-    ∙ four_is p n a b c d r steps g s.from l s.table t t-is y in
+    ∙ four_is p n a b c d r steps g s.from l s.table t (t-is ∙ ap (bit_xor (r / 2 ^ (n - 16))) w-is) y in
     let z = semi-pushed-lt p n a _ g (semi-pushed-lt p n b _ g (semi-pushed-lt p n c _ g (semi-pushed-lt p n d r g l))) in
     (x, rw x z)

@@ -1,19 +1,23 @@
 -- What the code of the hashes asks: a push in the machine's operations, and a turn of the loops over semi-octets.
 -- Assumes nothing.
 use mathlib.Core.Path.{◌≡◌, refl, sym, ap, subst, ◌∙◌}
+use Rattle.std.specs.List.{concat}
+use Rattle.std.specs.Simd.{first_chunks}
+use Rattle.std.proofs.lemmas.List.{append-nil, append_assoc, drop-drop, take-append-drop}
+use Rattle.std.proofs.lemmas.List.Folds.{concat-append}
 use mathlib.Core.Bool.{Bool, cond}
-use mathlib.Core.List.{List, ◌∷◌}
-use Prim.Native.Nat.{ℕ, suc, ◌+◌, ◌*◌, ◌-◌, ◌/◌, ◌%◌, ◌^◌, ◌≤◌, ◌<◌}
+use mathlib.Core.List.{List, [], ◌∷◌, ◌++◌}
+use Prim.Native.Nat.{ℕ, zero, suc, ◌+◌, ◌*◌, ◌-◌, ◌/◌, ◌%◌, ◌^◌, ◌≤◌, ◌<◌}
 use native.Mathlib.Omega.{arith}
 use native.Mathlib.Nat.{two-pow-succ, div-lt_iff_lt-mul}
 use lib.Bits.{bit_xor}
-use lib.ListN.{length, get_or, take, drop, length-drop}
+use lib.ListN.{length, take, drop, length-drop}
 use lib.Pow.{pow_pos, pow_mono, shl_exact}
-use lib.Seq.{drop-cons, drop-length, take_all}
+use lib.Seq.{take_all}
 use borrow.Author.Tests.{eq-eqb, ne_eqb}
 use Rattle.gf16.specs.Field.{sum}
 use Rattle.slot_laws.specs.Hash.{Degree, pushed, hash, bits_of, powers, poly14, poly16, poly22}
-use Rattle.slot_hashing.specs.Inner.{semi_pushed}
+use Rattle.slot_hashing.specs.Inner.{semi_pushed, four_pushed}
 use Rattle.slot_laws.specs.Sizes.{frame_size, conceal, hash1}
 use Rattle.slot_laws.specs.Order.{part_n, part_p, first_hash, second_hash}
 use Rattle.slot_laws.proofs.Hash.{pushed-lt, sum_below, bit-lt}
@@ -53,36 +57,74 @@ push-is p n b r v w d h k l e f =
 
 -- ---- the loops over semi-octets
 
-hash-cons : (p n c : ℕ) (s : List ℕ) → hash p n (bits_of (c ∷ s)) ≡ pushed p n (c % 2)
-    (pushed p n (c / 2 % 2) (pushed p n (c / 4 % 2) (pushed p n (c / 8 % 2) (hash p n (bits_of s)))))
+-- the row s gone through from its end as far as its front, and the hash r of what is behind that
+pub record Hashed (p n : ℕ) (s front : List ℕ) (r : ℕ) : Type 0 where
+  pub behind : List ℕ
+  pub parts : front ++ behind ≡ s
+  pub is : r ≡ hash p n (bits_of behind)
+
+pub hashed-first : {p n : ℕ} {s front : List ℕ} → front ≡ s → Hashed p n s front 0
 unfolding hash bits_of
-hash-cons p n c s = refl
+hashed-first {p} {n} {s} {front} e = record { behind = []; parts = append-nil front ∙ e; is = refl }
 
-pub hash-first : (p n : ℕ) (s : List ℕ) → 0 ≡ hash p n (bits_of (drop (length s) s))
+-- a semi-octet more
+pub hashed-next : {p n : ℕ} {s front : List ℕ} {r : ℕ} (c v : ℕ) (last : List ℕ) → Hashed p n s front r → front ≡ last ++ (c ∷ [])
+    → v ≡ semi_pushed p n c r → Hashed p n s last v
 unfolding hash bits_of
-hash-first p n s = sym (ap (λ (l : List ℕ). hash p n (bits_of l)) (drop-length s))
+hashed-next {p} {n} c v last h e f = record {
+  behind = c ∷ h.behind;
+  parts = sym (append_assoc last (c ∷ []) h.behind) ∙ ap (λ (x : List ℕ). x ++ h.behind) (sym e) ∙ h.parts;
+  is = f ∙ ap (semi_pushed p n c) h.is;
+}
 
-hash_at : (p n : ℕ) (s : List ℕ) (j i r : ℕ) → i ≡ suc j → j < length s → r ≡ hash p n (bits_of (drop i s))
-    → semi_pushed p n (get_or s j 0) r ≡ hash p n (bits_of (drop j s))
-hash_at p n s j i r k h e =
-    ap (semi_pushed p n (get_or s j 0)) (e ∙ ap (λ (x : ℕ). hash p n (bits_of (drop x s))) k)
-    ∙ sym (hash-cons p n (get_or s j 0) (drop (suc j) s))
-    ∙ ap (λ (t : List ℕ). hash p n (bits_of t)) (sym (drop-cons s j 0 h))
+-- fours: those of a row, and what makes no four
+pub fours-parts : (k : ℕ) (s : List ℕ) → concat (first_chunks 4 k s) ++ drop (k * 4) s ≡ s
+fours-parts zero s = refl
+fours-parts (suc k) s =
+    let e : suc k * 4 ≡ 4 + k * 4 = omega arith in
+    append_assoc (take 4 s) (concat (first_chunks 4 k (drop 4 s))) (drop (suc k * 4) s)
+    ∙ ap (λ (n : ℕ). take 4 s ++ (concat (first_chunks 4 k (drop 4 s)) ++ drop n s)) e
+    ∙ ap (λ (t : List ℕ). take 4 s ++ (concat (first_chunks 4 k (drop 4 s)) ++ t)) (sym (drop-drop (k * 4) 4 s))
+    ∙ ap (λ (t : List ℕ). take 4 s ++ t) (fours-parts k (drop 4 s))
+    ∙ take-append-drop 4 s
 
-pub hash-next : (p n : ℕ) (s : List ℕ) (i r v : ℕ) → 0 < i → i ≤ length s → r ≡ hash p n (bits_of (drop i s))
-    → v ≡ semi_pushed p n (get_or s (i - 1) 0) r → v ≡ hash p n (bits_of (drop (i - 1) s))
-hash-next p n s i r v h l e f = f ∙ hash_at p n s (i - 1) i r (omega arith) (omega arith) e
+concat-last : (l : List (List ℕ)) (four : List ℕ) → concat (l ++ (four ∷ [])) ≡ concat l ++ four
+concat-last l four = concat-append l (four ∷ []) ∙ ap (λ (x : List ℕ). concat l ++ x) (append-nil four)
 
-pub hash-next-four : (p n : ℕ) (s : List ℕ) (i r v : ℕ) → 4 ≤ i → i ≤ length s → r ≡ hash p n (bits_of (drop i s))
-    → v ≡ semi_pushed p n (get_or s (i - 4) 0) (semi_pushed p n (get_or s (i - 4 + 1) 0)
-    (semi_pushed p n (get_or s (i - 4 + 2) 0) (semi_pushed p n (get_or s (i - 4 + 3) 0) r)))
-    → v ≡ hash p n (bits_of (drop (i - 4) s))
-hash-next-four p n s i r v h l e f =
-    let j : ℕ = i - 4 in
-    let x3 = hash_at p n s (j + 3) i r (omega arith) (omega arith) e in
-    let x2 = hash_at p n s (j + 2) (j + 3) _ (omega arith) (omega arith) x3 in
-    let x1 = hash_at p n s (j + 1) (j + 2) _ (omega arith) (omega arith) x2 in
-    f ∙ hash_at p n s j (j + 1) _ (omega arith) (omega arith) x1
+-- what makes no four gone through
+pub hashed-fours : {p n : ℕ} {s : List ℕ} {fours : List (List ℕ)} {rest : List ℕ} {r : ℕ} (k : ℕ) → fours ≡ first_chunks 4 k s
+    → rest ≡ drop (k * 4) s → r ≡ hash p n (bits_of rest) → Hashed p n s (concat fours) r
+hashed-fours {p} {n} {s} {fours} {rest} k e f g = record {
+  behind = rest;
+  parts = rw (e, f) (fours-parts k s);
+  is = g;
+}
+
+-- four semi-octets more
+four-hash : (p n : ℕ) (four t : List ℕ) (r : ℕ) → length four ≡ 4 → r ≡ hash p n (bits_of t)
+    → four_pushed p n four r ≡ hash p n (bits_of (four ++ t))
+unfolding hash bits_of
+four-hash p n [] t r h e = absurd (omega arith)
+four-hash p n (a ∷ []) t r h e = absurd (omega arith)
+four-hash p n (a ∷ b ∷ []) t r h e = absurd (omega arith)
+four-hash p n (a ∷ b ∷ c ∷ []) t r h e = absurd (omega arith)
+four-hash p n (a ∷ b ∷ c ∷ d ∷ []) t r h e =
+    ap (λ (x : ℕ). semi_pushed p n a (semi_pushed p n b (semi_pushed p n c (semi_pushed p n d x)))) e
+four-hash p n (a ∷ b ∷ c ∷ d ∷ f ∷ l) t r h e = absurd (omega arith)
+
+pub hashed-next-four : {p n : ℕ} {s : List ℕ} {front : List (List ℕ)} {r : ℕ} (four : List ℕ) (v : ℕ) (last : List (List ℕ))
+    → length four ≡ 4 → Hashed p n s (concat front) r → front ≡ last ++ (four ∷ []) → v ≡ four_pushed p n four r
+    → Hashed p n s (concat last) v
+hashed-next-four {p} {n} {s} {front} {r} four v last l h e f = record {
+  behind = four ++ h.behind;
+  parts = sym (append_assoc (concat last) four h.behind) ∙ ap (λ (x : List ℕ). x ++ h.behind) (sym (ap concat e ∙ concat-last last four))
+      ∙ h.parts;
+  is = f ∙ four-hash p n four h.behind r l h.is;
+}
+
+pub hashed-last : {p n : ℕ} {s front : List ℕ} {r : ℕ} → Hashed p n s front r → front ≡ [] → r ≡ hash p n (bits_of s)
+hashed-last {p} {n} h e =
+    h.is ∙ ap (λ (x : List ℕ). hash p n (bits_of x)) (ap (λ (x : List ℕ). x ++ h.behind) (sym e) ∙ h.parts)
 
 -- the rest of a row, as a part of it
 pub hash-rest : (p n : ℕ) (s : List ℕ) (i v : ℕ) → v ≡ hash p n (bits_of (take (length s - i) (drop i s)))

@@ -246,13 +246,13 @@ place-lt n j w r f l k =
     xor_lt j (r / 2 ^ (n - j)) w ((div-lt_iff_lt-mul (pow_pos (n - j))).1 (subst (λ (y : ℕ). r < y) x l)) k
 
 -- the value in the machine's operations
-pub semi-step : (p n c r v : ℕ) (steps : List ℕ) → Stepped p n steps → r < 2 ^ n
-    → v ≡ bit_xor (r % (1 * 2 ^ (n - 4) % 4294967296) * 16) (get_or steps (bit_xor (r / 2 ^ (n - 4)) (c % 16)) 0)
+pub semi-step : (p n c r w v : ℕ) (steps : List ℕ) → Stepped p n steps → r < 2 ^ n → w ≡ c % 16
+    → v ≡ bit_xor (r % (1 * 2 ^ (n - 4) % 4294967296) * 16) (get_or steps (bit_xor (r / 2 ^ (n - 4)) w) 0)
     → (v ≡ semi_pushed p n c r) × (v < 2 ^ n)
 unfolding sum
-semi-step p n c r v steps s l e =
+semi-step p n c r w v steps s l f e =
     let d = s.divisor.degree in
     let x : v ≡ semi_pushed p n c r =
-    e ∙ ap (λ (y : ℕ). bit_xor (r % y * 16) (get_or steps (bit_xor (r / 2 ^ (n - 4)) (c % 16)) 0)) (one_shifted n 4 s.divisor.to)
+    e ∙ ap₂ (λ (y w : ℕ). bit_xor (r % y * 16) (get_or steps (bit_xor (r / 2 ^ (n - 4)) w) 0)) (one_shifted n 4 s.divisor.to) f
     ∙ semi-is p n c r steps d s.from l s.table in
     (x, rw x (semi-pushed-lt p n c r d l))

@@ -1,6 +1,6 @@
 -- What the private functions promise one another: no part of what is right of a slot.
 -- Assumes nothing.
-use Rattle.std.specs.Prelude.{◌≡◌, List, ℕ, zero, suc, ◌+◌, ◌-◌, ◌*◌, ◌/◌, ◌%◌, ◌^◌, ◌≤◌}
+use Rattle.std.specs.Prelude.{◌≡◌, List, ℕ, get_or, zero, suc, ◌+◌, ◌-◌, ◌*◌, ◌/◌, ◌%◌, ◌^◌, ◌≤◌}
 use Rattle.slot_laws.specs.Hash.{Degree, pushed}
 use Rattle.laws.specs.Tab.{tab}
 
@@ -31,3 +31,9 @@ pub record Stepped (p n : ℕ) (steps : List ℕ) : Type 0 where
 -- the four bits of the semi-octet c pushed, the highest first
 abbrev pub semi_pushed : ℕ → ℕ → ℕ → ℕ → ℕ
 semi_pushed p n c r = pushed p n (c % 2) (pushed p n (c / 2 % 2) (pushed p n (c / 4 % 2) (pushed p n (c / 8 % 2) r)))
+
+-- the semi-octets of a four pushed, the last first
+abbrev pub four_pushed : ℕ → ℕ → List ℕ → ℕ → ℕ
+four_pushed p n four r =
+    semi_pushed p n (get_or four 0 0) (semi_pushed p n (get_or four 1 0) (semi_pushed p n (get_or four 2 0)
+    (semi_pushed p n (get_or four 3 0) r)))

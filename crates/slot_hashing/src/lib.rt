@@ -6,48 +6,63 @@
 ghost use Rattle.std.specs.Prelude.{◌≡◌, ◌+◌, ◌*◌, ◌/◌, ◌%◌, ◌^◌, ◌<◌, length};
 ghost use Rattle.slot_laws.specs.Sizes.{InRange, frame_size};
 ghost use Rattle.slot_laws.specs.Hash.{pushed, hash, bits_of};
-ghost use Rattle.slot_hashing.specs.Inner.{Divisor, Stepped, semi_pushed};
+ghost use Rattle.slot_hashing.specs.Inner.{Divisor, Stepped, semi_pushed, four_pushed};
 ghost use Rattle.slot_laws.specs.Order.{first_hash, second_hash};
 
-// A.21, A.22 and A.23, bit i for x^i.
+// A polynomial that a remainder is by, bit i for x^i, and its table: entry 16 k + t is what t, as semi-octet k of the sixteen highest bits
+// of a remainder, comes to sixteen powers higher.
+struct Polynomial {
+    bits: u32,
+    degree: u32,
+    steps: [u32; 64],
+}
+
+// A.21.
 const FOURTEEN: u32 = 0x4645;
 
-const TWENTY_TWO: u32 = 0x49_0f29;
-
-const SIXTEEN: u32 = 0x1_a2eb;
-
 // A.21 times x^2: a remainder by it has the sixteen bits that four semi-octets need, and is x^2 times the one by A.21.
-const RAISED: u32 = 0x1_1914;
+static RAISED: Polynomial = Polynomial {
+    bits: 0x1_1914,
+    degree: 16,
+    steps: [
+        0x0000, 0x1914, 0x3228, 0x2b3c, 0x6450, 0x7d44, 0x5678, 0x4f6c, 0xc8a0, 0xd1b4, 0xfa88,
+        0xe39c, 0xacf0, 0xb5e4, 0x9ed8, 0x87cc, 0x0000, 0x8854, 0x09bc, 0x81e8, 0x1378, 0x9b2c,
+        0x1ac4, 0x9290, 0x26f0, 0xaea4, 0x2f4c, 0xa718, 0x3588, 0xbddc, 0x3c34, 0xb460, 0x0000,
+        0x4de0, 0x9bc0, 0xd620, 0x2e94, 0x6374, 0xb554, 0xf8b4, 0x5d28, 0x10c8, 0xc6e8, 0x8b08,
+        0x73bc, 0x3e5c, 0xe87c, 0xa59c, 0x0000, 0xba50, 0x6db4, 0xd7e4, 0xdb68, 0x6138, 0xb6dc,
+        0x0c8c, 0xafc4, 0x1594, 0xc270, 0x7820, 0x74ac, 0xcefc, 0x1918, 0xa348,
+    ],
+};
 
-// Entry 16 k + t is what t, as semi-octet k of the sixteen highest bits of a remainder, comes to sixteen powers higher.
-const STEPS_RAISED: [u32; 64] = [
-    0x0000, 0x1914, 0x3228, 0x2b3c, 0x6450, 0x7d44, 0x5678, 0x4f6c, 0xc8a0, 0xd1b4, 0xfa88, 0xe39c,
-    0xacf0, 0xb5e4, 0x9ed8, 0x87cc, 0x0000, 0x8854, 0x09bc, 0x81e8, 0x1378, 0x9b2c, 0x1ac4, 0x9290,
-    0x26f0, 0xaea4, 0x2f4c, 0xa718, 0x3588, 0xbddc, 0x3c34, 0xb460, 0x0000, 0x4de0, 0x9bc0, 0xd620,
-    0x2e94, 0x6374, 0xb554, 0xf8b4, 0x5d28, 0x10c8, 0xc6e8, 0x8b08, 0x73bc, 0x3e5c, 0xe87c, 0xa59c,
-    0x0000, 0xba50, 0x6db4, 0xd7e4, 0xdb68, 0x6138, 0xb6dc, 0x0c8c, 0xafc4, 0x1594, 0xc270, 0x7820,
-    0x74ac, 0xcefc, 0x1918, 0xa348,
-];
+// A.22.
+static TWENTY_TWO: Polynomial = Polynomial {
+    bits: 0x49_0f29,
+    degree: 22,
+    steps: [
+        0x00_0000, 0x09_0f29, 0x12_1e52, 0x1b_117b, 0x24_3ca4, 0x2d_338d, 0x36_22f6, 0x3f_2ddf,
+        0x01_7661, 0x08_7948, 0x13_6833, 0x1a_671a, 0x25_4ac5, 0x2c_45ec, 0x37_5497, 0x3e_5bbe,
+        0x00_0000, 0x02_ecc2, 0x05_d984, 0x07_3546, 0x0b_b308, 0x09_5fca, 0x0e_6a8c, 0x0c_864e,
+        0x17_6610, 0x15_8ad2, 0x12_bf94, 0x10_5356, 0x1c_d518, 0x1e_39da, 0x19_0c9c, 0x1b_e05e,
+        0x00_0000, 0x2e_cc20, 0x14_9769, 0x3a_5b49, 0x29_2ed2, 0x07_e2f2, 0x3d_b9bb, 0x13_759b,
+        0x1b_528d, 0x35_9ead, 0x0f_c5e4, 0x21_09c4, 0x32_7c5f, 0x1c_b07f, 0x26_eb36, 0x08_2716,
+        0x00_0000, 0x36_a51a, 0x24_451d, 0x12_e007, 0x01_8513, 0x37_2009, 0x25_c00e, 0x13_6514,
+        0x03_0a26, 0x35_af3c, 0x27_4f3b, 0x11_ea21, 0x02_8f35, 0x34_2a2f, 0x26_ca28, 0x10_6f32,
+    ],
+};
 
-const STEPS_TWENTY_TWO: [u32; 64] = [
-    0x00_0000, 0x09_0f29, 0x12_1e52, 0x1b_117b, 0x24_3ca4, 0x2d_338d, 0x36_22f6, 0x3f_2ddf,
-    0x01_7661, 0x08_7948, 0x13_6833, 0x1a_671a, 0x25_4ac5, 0x2c_45ec, 0x37_5497, 0x3e_5bbe,
-    0x00_0000, 0x02_ecc2, 0x05_d984, 0x07_3546, 0x0b_b308, 0x09_5fca, 0x0e_6a8c, 0x0c_864e,
-    0x17_6610, 0x15_8ad2, 0x12_bf94, 0x10_5356, 0x1c_d518, 0x1e_39da, 0x19_0c9c, 0x1b_e05e,
-    0x00_0000, 0x2e_cc20, 0x14_9769, 0x3a_5b49, 0x29_2ed2, 0x07_e2f2, 0x3d_b9bb, 0x13_759b,
-    0x1b_528d, 0x35_9ead, 0x0f_c5e4, 0x21_09c4, 0x32_7c5f, 0x1c_b07f, 0x26_eb36, 0x08_2716,
-    0x00_0000, 0x36_a51a, 0x24_451d, 0x12_e007, 0x01_8513, 0x37_2009, 0x25_c00e, 0x13_6514,
-    0x03_0a26, 0x35_af3c, 0x27_4f3b, 0x11_ea21, 0x02_8f35, 0x34_2a2f, 0x26_ca28, 0x10_6f32,
-];
-
-const STEPS_SIXTEEN: [u32; 64] = [
-    0x0000, 0xa2eb, 0xe73d, 0x45d6, 0x6c91, 0xce7a, 0x8bac, 0x2947, 0xd922, 0x7bc9, 0x3e1f, 0x9cf4,
-    0xb5b3, 0x1758, 0x528e, 0xf065, 0x0000, 0x10af, 0x215e, 0x31f1, 0x42bc, 0x5213, 0x63e2, 0x734d,
-    0x8578, 0x95d7, 0xa426, 0xb489, 0xc7c4, 0xd76b, 0xe69a, 0xf635, 0x0000, 0xa81b, 0xf2dd, 0x5ac6,
-    0x4751, 0xef4a, 0xb58c, 0x1d97, 0x8ea2, 0x26b9, 0x7c7f, 0xd464, 0xc9f3, 0x61e8, 0x3b2e, 0x9335,
-    0x0000, 0xbfaf, 0xddb5, 0x621a, 0x1981, 0xa62e, 0xc434, 0x7b9b, 0x3302, 0x8cad, 0xeeb7, 0x5118,
-    0x2a83, 0x952c, 0xf736, 0x4899,
-];
+// A.23.
+static SIXTEEN: Polynomial = Polynomial {
+    bits: 0x1_a2eb,
+    degree: 16,
+    steps: [
+        0x0000, 0xa2eb, 0xe73d, 0x45d6, 0x6c91, 0xce7a, 0x8bac, 0x2947, 0xd922, 0x7bc9, 0x3e1f,
+        0x9cf4, 0xb5b3, 0x1758, 0x528e, 0xf065, 0x0000, 0x10af, 0x215e, 0x31f1, 0x42bc, 0x5213,
+        0x63e2, 0x734d, 0x8578, 0x95d7, 0xa426, 0xb489, 0xc7c4, 0xd76b, 0xe69a, 0xf635, 0x0000,
+        0xa81b, 0xf2dd, 0x5ac6, 0x4751, 0xef4a, 0xb58c, 0x1d97, 0x8ea2, 0x26b9, 0x7c7f, 0xd464,
+        0xc9f3, 0x61e8, 0x3b2e, 0x9335, 0x0000, 0xbfaf, 0xddb5, 0x621a, 0x1981, 0xa62e, 0xc434,
+        0x7b9b, 0x3302, 0x8cad, 0xeeb7, 0x5118, 0x2a83, 0x952c, 0xf736, 0x4899,
+    ],
+};
 
 // The remainder one power higher and with the bit b at power n, reduced by p.
 fn push(p: u32, n: u32, b: u32, r: u32) -> u32
@@ -62,66 +77,60 @@ fn push(p: u32, n: u32, b: u32, r: u32) -> u32
 }
 
 // The four bits of a semi-octet at once: they and the four highest of the remainder enter as their sum.
-fn push_semi(steps: &[u32; 64], p: u32, n: u32, c: u32, r: u32) -> u32
-    requires stepped { Stepped p n steps.now }
-    requires r_bound { r < 2 ^ n }
-    ensures value { result ≡ semi_pushed p n c r }
-    ensures upper_bound { result < 2 ^ n }
+fn push_semi(by: &Polynomial, c: u8, r: u32) -> u32
+    requires stepped { Stepped by.now.bits by.now.degree by.now.steps }
+    requires r_bound { r < 2 ^ by.now.degree }
+    ensures value { result ≡ semi_pushed by.now.bits by.now.degree c r }
+    ensures upper_bound { result < 2 ^ by.now.degree }
 {
-    let t = (r >> (n - 4)) ^ (c % 16);
-    ((r % (1 << (n - 4))) * 16) ^ steps[t as usize]
+    let n = by.degree;
+    let t = (r >> (n - 4)) ^ u32::from(c % 16);
+    ((r % (1 << (n - 4))) * 16) ^ by.steps[t as usize]
 }
 
 // The hash of a row of semi-octets.
-fn hash_of(steps: &[u32; 64], p: u32, n: u32, s: &[u8]) -> u32
-    requires { Stepped p n steps.now }
-    ensures value { result ≡ hash p n (bits_of s.now) }
-    ensures upper_bound { result < 2 ^ n }
+fn hash_of(by: &Polynomial, s: &[u8]) -> u32
+    requires { Stepped by.now.bits by.now.degree by.now.steps }
+    ensures value { result ≡ hash by.now.bits by.now.degree (bits_of s.now) }
+    ensures upper_bound { result < 2 ^ by.now.degree }
 {
-    let mut r: u32 = 0;
-    let mut i = s.len();
-    while 0 < i {
-        i = i - 1;
-        r = push_semi(steps, p, n, s[i] as u32, r);
+    let mut r = 0;
+    for c in s.iter().rev() {
+        r = push_semi(by, *c, r);
     }
     r
 }
 
-// Four semi-octets at once, d of the highest powers: they and the sixteen highest bits of the remainder enter as their sum.
-fn push_four(steps: &[u32; 64], p: u32, n: u32, a: u32, b: u32, c: u32, d: u32, r: u32) -> u32
-    requires stepped { Stepped p n steps.now }
-    requires r_bound { r < 2 ^ n }
-    ensures value { result ≡ semi_pushed p n a (semi_pushed p n b (semi_pushed p n c (semi_pushed p n d r))) }
-    ensures upper_bound { result < 2 ^ n }
+// Four semi-octets at once, the last of the highest powers: they and the sixteen highest bits of the remainder enter as their sum.
+fn push_four(by: &Polynomial, four: &[u8; 4], r: u32) -> u32
+    requires stepped { Stepped by.now.bits by.now.degree by.now.steps }
+    requires r_bound { r < 2 ^ by.now.degree }
+    ensures value { result ≡ four_pushed by.now.bits by.now.degree four.now r }
+    ensures upper_bound { result < 2 ^ by.now.degree }
+    ensures four_len { length four.now ≡ 4 }
 {
-    let w = a % 16 + 16 * (b % 16) + 256 * (c % 16) + 4096 * (d % 16);
-    let t = (r >> (n - 16)) ^ w;
+    let n = by.degree;
+    let a = u32::from(four[0] % 16);
+    let b = u32::from(four[1] % 16);
+    let c = u32::from(four[2] % 16);
+    let d = u32::from(four[3] % 16);
+    let t = (r >> (n - 16)) ^ (a + 16 * b + 256 * c + 4096 * d);
     let kept = (r % (1 << (n - 16))) * 65536;
-    let upper = steps[(48 + t / 4096) as usize] ^ steps[(32 + t / 256 % 16) as usize];
-    let lower = steps[(16 + t / 16 % 16) as usize] ^ steps[(t % 16) as usize];
+    let upper = by.steps[(48 + t / 4096) as usize] ^ by.steps[(32 + t / 256 % 16) as usize];
+    let lower = by.steps[(16 + t / 16 % 16) as usize] ^ by.steps[(t % 16) as usize];
     (kept ^ upper) ^ lower
 }
 
 // The hash of a row of semi-octets, by fours; those of the highest powers that make no four come first.
-fn hash_by_fours(steps: &[u32; 64], p: u32, n: u32, s: &[u8]) -> u32
-    requires { Stepped p n steps.now }
-    ensures value { result ≡ hash p n (bits_of s.now) }
-    ensures upper_bound { result < 2 ^ n }
+fn hash_by_fours(by: &Polynomial, s: &[u8]) -> u32
+    requires { Stepped by.now.bits by.now.degree by.now.steps }
+    ensures value { result ≡ hash by.now.bits by.now.degree (bits_of s.now) }
+    ensures upper_bound { result < 2 ^ by.now.degree }
 {
-    let mut i = s.len() / 4 * 4;
-    let mut r = hash_of(steps, p, n, &s[i..]);
-    while 0 < i {
-        i = i - 4;
-        r = push_four(
-            steps,
-            p,
-            n,
-            s[i] as u32,
-            s[i + 1] as u32,
-            s[i + 2] as u32,
-            s[i + 3] as u32,
-            r,
-        );
+    let (fours, rest) = s.as_chunks::<4>();
+    let mut r = hash_of(by, rest);
+    for four in fours.iter().rev() {
+        r = push_four(by, four, r);
     }
     r
 }
@@ -145,17 +154,12 @@ pub fn first_hash(size: usize, mode: usize, request: u32, a: &[u8]) -> u32
 {
     let e = 2 * slot_sizes::frame_bytes(size, mode) - slot_sizes::conceal_size(size, mode);
     match size {
-        40 => with_request(
-            FOURTEEN,
-            14,
-            request,
-            hash_by_fours(&STEPS_RAISED, RAISED, 16, &a[..e]) / 4,
-        ),
+        40 => with_request(FOURTEEN, 14, request, hash_by_fours(&RAISED, &a[..e]) / 4),
         _ => with_request(
-            TWENTY_TWO,
-            22,
+            TWENTY_TWO.bits,
+            TWENTY_TWO.degree,
             request,
-            hash_by_fours(&STEPS_TWENTY_TWO, TWENTY_TWO, 22, &a[..e]),
+            hash_by_fours(&TWENTY_TWO, &a[..e]),
         ),
     }
 }
@@ -167,5 +171,5 @@ pub fn second_hash(size: usize, mode: usize, a: &[u8]) -> u32
     ensures { result ≡ second_hash size mode a.now }
 {
     let e = 2 * slot_sizes::frame_bytes(size, mode) - slot_sizes::conceal_size(size, mode);
-    hash_by_fours(&STEPS_SIXTEEN, SIXTEEN, 16, &a[e..])
+    hash_by_fours(&SIXTEEN, &a[e..])
 }
