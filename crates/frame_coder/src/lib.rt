@@ -100,18 +100,16 @@ pub fn decode(
     ensures result_value { given result ≡ symbol_of s.now cum.now row last c }
     ensures good_symbol { GoodSymbol s.now last c result }
 {
-    let low = c.low;
-    let range = c.range;
-    let t = range / 1024;
-    if t * 1024 <= low {
+    let t = c.range / 1024;
+    if t * 1024 <= c.low {
         return Err(Cause::Scaled);
     }
-    let f = find(cum, row, t, low, last);
+    let f = find(cum, row, t, c.low, last);
     refill(
         s,
         f.symbol,
         Coder {
-            low: low - f.below,
+            low: c.low - f.below,
             range: f.above - f.below,
             at: c.at,
             taken: c.taken + 1,

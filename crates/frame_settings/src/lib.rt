@@ -74,11 +74,7 @@ fn lines_of(khz: usize, duration: usize) -> usize
     ensures value { result ≡ lines_of khz duration }
     ensures lower_bound { (14 ≤ result) × (result ≤ 508) }
 {
-    if khz < 40 {
-        khz * duration / 4
-    } else {
-        40 * duration / 4
-    }
+    khz.min(40) * duration / 4
 }
 
 // The setting of a rate and a duration, both of the tables.
