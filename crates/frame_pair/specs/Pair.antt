@@ -7,8 +7,8 @@ use Rattle.frame_coder.specs.Symbol.{symbol_of}
 use Rattle.frame_coder.specs.declared.Coder.{Coder}
 use Rattle.frame_pair.specs.declared.Last.{Last}
 use Rattle.frame_pair.specs.declared.Pair.{Pair}
-pub use Rattle.frame_pair.specs.declared.Streams.{Streams}
-pub use Rattle.frame_pair.specs.declared.Values.{Values}
+use Rattle.frame_pair.specs.declared.Streams.{Streams}
+use Rattle.frame_pair.specs.declared.Values.{Values}
 
 -- min (level, 3)
 abbrev pub capped : ℕ → ℕ

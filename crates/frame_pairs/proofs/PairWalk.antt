@@ -1,21 +1,16 @@
 -- What the loop over the pairs asks: a line as a signed number, lines that keep their room, and a turn of the walk.
 -- Assumes nothing.
-use mathlib.Core.Path.{◌≡◌, refl, sym, ap, ap₂, ◌∙◌, subst}
+use mathlib.Core.Path.{◌≡◌, refl, sym, ap, ◌∙◌, subst}
 use mathlib.Core.Bool.{Bool, true, false, cond}
 use mathlib.Core.List.{List}
 use Prim.Native.Nat.{ℕ, zero, suc, ◌+◌, ◌-◌, ◌*◌, ◌/◌, ◌≤◌, ◌<◌}
 use native.Mathlib.Omega.{arith}
-use native.Mathlib.Nat.{add-zero}
-use borrow.Author.Tests.{lt-ltb, le-ltb}
 use native.Mathlib.Numerals.{add-one}
 use lib.Dec.{eqb}
 use lib.ListN.{length, get_or, set, length-set}
 use lib.Seq.{get_or-set_same, get_or-set_other}
-use lib.IntN.{ℤ, pos, nat_abs, neg_ℤ, ◌-ℤ◌, +ℤ_idl}
-use mir.Syntax.{w32}
-use mir.Val.{SFits, of_z, to_z}
-use mir.ValLaws.{to_z_pos, to_z-of_z}
-use borrow.Author.Tests.{eqb-true, eqb-false, eq-eqb, ne_eqb}
+use lib.IntN.{ℤ, pos, nat_abs, neg_ℤ}
+use borrow.Author.Tests.{eqb-true, eqb-false}
 use Rattle.frame_bits.specs.Read.{value, cause}
 use Rattle.frame_pair.specs.Pair.{pair_of}
 use Rattle.frame_pairs.specs.Pairs.{base_of, line_of, store_of, pairs_of}
@@ -24,14 +19,6 @@ use Rattle.frame_pairs.specs.Sound.{Roomy}
 use Rattle.frame_coder.specs.declared.Coder.{Coder}
 use Rattle.frame_pair.specs.declared.Pair.{Pair}
 use Rattle.frame_pairs.specs.declared.PairSetting.{PairSetting}
-
--- ---- the context of a line with its offsets
-
-pub base-past : (context offset half k : ℕ) → half < k → context + offset + 256 ≡ base_of context offset half k
-base-past context offset half k h = rw (lt-ltb half k h)
-
-pub base-before : (context offset half k : ℕ) → k ≤ half → context + offset ≡ base_of context offset half k
-base-before context offset half k h = rw (le-ltb half k h) (sym (add-zero (context + offset)))
 
 -- ---- a line
 
@@ -43,35 +30,7 @@ line-by (suc m) false = refl
 pub line-size : (m sign : ℕ) → nat_abs (line_of m sign) ≡ m
 line-size m sign = line-by m (eqb sign 0)
 
-pos-is : (m : ℕ) → m ≤ 32767 → to_z w32 m ≡ pos m
-pos-is m h = let b : m < 2147483648 = omega arith in to_z_pos w32 m b
-
-pub line-plus : (m sign : ℕ) → m ≤ 32767 → sign ≡ 0 → to_z w32 m ≡ line_of m sign
-line-plus m sign h e = rw (eq-eqb sign 0 e) (pos-is m h)
-
-minus_is : (m : ℕ) → m ≤ 32767 → pos 0 -ℤ to_z w32 m ≡ neg_ℤ (pos m)
-minus_is m h = +ℤ_idl (neg_ℤ (to_z w32 m)) ∙ ap neg_ℤ (pos-is m h)
-
-neg-fits : (m : ℕ) → m ≤ 32767 → SFits w32 (neg_ℤ (pos m))
-neg-fits zero h = let b : 0 < 2147483648 = omega arith in record { sfits = b }
-neg-fits (suc m) h = let b : m < 2147483648 = omega arith in record { sfits = b }
-
-pub minus-fits : (m : ℕ) → m ≤ 32767 → SFits w32 (pos 0 -ℤ to_z w32 m)
-minus-fits m h = subst (λ (z : ℤ). SFits w32 z) (sym (minus_is m h)) (neg-fits m h)
-
-pub line-minus : (m sign : ℕ) → m ≤ 32767 → (sign ≡ 0 → ⊥) → to_z w32 (of_z w32 (pos 0 -ℤ to_z w32 m)) ≡ line_of m sign
-line-minus m sign h n =
-    let e : line_of m sign ≡ neg_ℤ (pos m) = rw (ne_eqb sign 0 n) in
-    to_z-of_z w32 (pos 0 -ℤ to_z w32 m) (minus-fits m h) ∙ minus_is m h ∙ sym e
-
-pub stored : (lines : List ℤ) (k : ℕ) (q : Pair) (a b : ℤ) → a ≡ line_of q.x q.xsign → b ≡ line_of q.y q.ysign
-    → set (set lines (2 * k) a) (2 * k + 1) b ≡ store_of lines k q
-stored lines k q a b e f = ap₂ (λ (u v : ℤ). set (set lines (2 * k) u) (2 * k + 1) v) e f
-
 -- ---- lengths and room
-
-pub length-store : (lines after : List ℤ) (k : ℕ) (q : Pair) → after ≡ store_of lines k q → length after ≡ length lines
-length-store lines after k q e = rw e (simp length-set)
 
 not-half : (i k : ℕ) → (i ≡ 2 * k → ⊥) → (i ≡ 2 * k + 1 → ⊥) → i / 2 ≡ k → ⊥
 not-half i k n m e = omega arith

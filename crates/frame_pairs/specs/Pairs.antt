@@ -1,12 +1,13 @@
 -- The spectral data (5.4.2.7): pairs of lines one after the other, from line 0 up. Assumes nothing.
-use Rattle.std.specs.Prelude.{cond, List, ℕ, zero, suc, ◌+◌, ◌*◌, ltb, eqb, set, ℤ, pos, neg_ℤ}
+use Rattle.std.specs.Prelude.{cond, Result, Ok, Err, List, ℕ, zero, suc, ◌+◌, ◌*◌, ltb, eqb, set, ℤ, pos, neg_ℤ}
 use Rattle.frame_bits.specs.Read.{Read, value, cause, and_then}
 use Rattle.frame_coder.specs.declared.Coder.{Coder}
 use Rattle.frame_pair.specs.declared.Pair.{Pair}
 use Rattle.frame_pairs.specs.declared.PairSetting.{PairSetting}
-use Rattle.frame_pairs.specs.declared.PairsRead.{PairsRead}
-use Rattle.frame_pairs.specs.declared.PairsRead.TheVariants as pairs_read
-use Rattle.frame_pair.specs.Pair.{Streams, pair_of}
+use Rattle.refusals.specs.declared.Cause.{Cause}
+use Rattle.refusals.specs.Numbers.{cause_number}
+use Rattle.frame_pair.specs.Pair.{pair_of}
+use Rattle.frame_pair.specs.declared.Streams.{Streams}
 
 -- "256 more past line NE/2": the context of line k with its offsets
 abbrev pub base_of : ℕ → ℕ → ℕ → ℕ → ℕ
@@ -37,6 +38,6 @@ pairs_of s look cum o (suc n) k context c p lines levels =
     pairs_of s look cum o n (suc k) q.context d.coder d.side (store_of lines k q) (set levels k q.level))
 
 -- the answer, with the lines and levels in the lists lent
-abbrev pub pairs_given : PairsRead → List ℤ → List ℕ → Read Streams Spectrum
-pairs_given (pairs_read.Value c p) lines levels = value (spectrum_given lines levels) (record { coder = c; side = p })
-pairs_given (pairs_read.Cause k) lines levels = cause k
+abbrev pub pairs_given : Result Streams Cause → List ℤ → List ℕ → Read Streams Spectrum
+pairs_given (Ok at) lines levels = value (spectrum_given lines levels) at
+pairs_given (Err why) lines levels = cause (cause_number why)

@@ -1,12 +1,13 @@
 -- What the reader's own steps promise each other beside their definitions: bounds of what is read, and cursors that stay inside.
 -- No public promise but `Bounded` of `frame` rests on a line of this. Assumes nothing.
-use Rattle.std.specs.Prelude.{◌≡◌, List, ℕ, ◌+◌, ◌*◌, ◌/◌, ◌≤◌, ◌<◌, length, get_or, ℤ, pos, nat_abs}
+use Rattle.std.specs.Prelude.{◌≡◌, Result, Ok, Err, List, ℕ, ◌+◌, ◌*◌, ◌/◌, ◌≤◌, ◌<◌, length, get_or, ℤ, pos, nat_abs}
 use Rattle.frame_coder.specs.declared.Coder.{Coder}
-use Rattle.frame_pairs.specs.declared.PairsRead.{PairsRead}
-use Rattle.frame_pairs.specs.declared.PairsRead.TheVariants as pairs_read
 use Rattle.frame_pairs.specs.declared.PairSetting.{PairSetting}
 use Rattle.frame_coder.specs.Sound.{Sound, Ready}
 use Rattle.frame_pair.specs.Sound.{Room, PairTables}
+use Rattle.frame_pair.specs.declared.Streams.{Streams}
+use Rattle.refusals.specs.declared.Cause.{Cause}
+use Rattle.refusals.specs.Numbers.{cause_number}
 
 -- every line has room for what may still come
 abbrev pub Roomy : ℕ → List ℤ → List ℕ → Type 0
@@ -31,7 +32,7 @@ pub record Working (lsb : ℕ) (x : List ℤ) (l : List ℕ) : Type 0 where
   pub levels : length l ≡ 200
   pub room : Roomy lsb x l
 
-abbrev pub GoodPairs : List ℕ → ℕ → ℕ → Coder → PairsRead → List ℤ → List ℕ → Type 0
-GoodPairs s lsb n c (pairs_read.Value d p) lines levels =
-    (d.taken ≤ c.taken + 14 * n) × (p ≤ 8 * length s + 23) × Sound s d × Roomy lsb lines levels
-GoodPairs s lsb n c (pairs_read.Cause k) lines levels = (4 ≤ k) × (k ≤ 6)
+abbrev pub GoodPairs : List ℕ → ℕ → ℕ → Coder → Result Streams Cause → List ℤ → List ℕ → Type 0
+GoodPairs s lsb n c (Ok at) lines levels =
+    (at.coder.taken ≤ c.taken + 14 * n) × (at.side ≤ 8 * length s + 23) × Sound s at.coder × Roomy lsb lines levels
+GoodPairs s lsb n c (Err why) lines levels = (4 ≤ cause_number why) × (cause_number why ≤ 6)

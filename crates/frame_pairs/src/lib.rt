@@ -8,8 +8,8 @@ ghost use Rattle.coder_tables.specs.Layout.{by_level};
 ghost use Rattle.frame_pairs.specs.Pairs.{base_of, line_of, store_of, pairs_of, pairs_given};
 ghost use Rattle.frame_pairs.specs.Sound.{PairsFrom, Working, GoodPairs};
 
-use frame_coder::Coder;
-use frame_pair::{Pair, PairRead, read_pair};
+use frame_pair::{Pair, Streams, read_pair};
+use refusals::Cause;
 
 // What all pairs are read with: the LSB mode, the offset of the rate, and NE / 2.
 #[derive(Clone, Copy)]
@@ -17,13 +17,6 @@ pub struct PairSetting {
     pub lsb: usize,
     pub offset: usize,
     pub half: usize,
-}
-
-// The cursors of both streams, or a cause; the lines and levels stand in the lent slices.
-#[derive(Clone, Copy)]
-pub enum PairsRead {
-    Value(Coder, usize),
-    Cause(u8),
 }
 
 pub fn base_of(context: usize, offset: usize, half: usize, k: usize) -> usize
@@ -44,10 +37,7 @@ fn line(m: usize, sign: usize) -> i32
     requires { m ≤ 32767 }
     ensures { result ≡ line_of m sign }
 {
-    if sign == 0 {
-        return m as i32;
-    }
-    0 - m as i32
+    if sign == 0 { m as i32 } else { -(m as i32) }
 }
 
 // The two lines of pair k.
@@ -62,43 +52,34 @@ fn store(lines: &mut [i32], k: usize, q: Pair)
     lines[2 * k + 1] = line(q.y, q.ysign);
 }
 
-// n pairs from line 0 on.
+// n pairs from line 0 on: the cursors behind them, or a cause; the lines and levels stand in the lent slices.
 pub fn read_pairs(
     s: &[u8],
     look: &[u8],
     cum: &[u16],
     o: PairSetting,
     n: usize,
-    first: Coder,
-    start: usize,
+    from: Streams,
     lines: &mut [i32],
     levels: &mut [u8],
-) -> PairsRead
-    requires pairs_from { PairsFrom s.now look.now cum.now o n first start }
+) -> Result<Streams, Cause>
+    requires pairs_from { PairsFrom s.now look.now cum.now o n from.coder from.side }
     requires working { Working o.lsb lines.old levels.old }
     ensures levels_after { pairs_given result lines.new levels.new
-        ≡ pairs_of s.now (by_level look.now) cum.now o n 0 0 first start
+        ≡ pairs_of s.now (by_level look.now) cum.now o n 0 0 from.coder from.side
         lines.old levels.old }
-    ensures good_pairs { GoodPairs s.now o.lsb n first result lines.new levels.new }
+    ensures good_pairs { GoodPairs s.now o.lsb n from.coder result lines.new levels.new }
 {
-    let lsb = o.lsb;
-    let mut c = first;
-    let mut p = start;
+    let mut at = from;
     let mut context = 0;
-    let mut k = 0;
-    while k < n {
+    for k in 0..n {
         let base = base_of(context, o.offset, o.half, 2 * k);
-        match read_pair(s, look, cum, lsb, base, context, c, p) {
-            PairRead::Cause(why) => return PairsRead::Cause(why),
-            PairRead::Value(q, next, end) => {
-                store(lines, k, q);
-                levels[k] = q.level as u8;
-                context = q.context;
-                c = next;
-                p = end;
-                k = k + 1;
-            }
-        }
+        let pair = read_pair(s, look, cum, o.lsb, base, context, at)?;
+        let q = pair.value;
+        store(lines, k, q);
+        levels[k] = q.level as u8;
+        context = q.context;
+        at = pair.next;
     }
-    PairsRead::Value(c, p)
+    Ok(at)
 }

@@ -10,10 +10,7 @@ use Rattle.frame_pairs.proofs.read_pairs.Given as goal
 
 abbrev pub invariant-loop-k : goal.invariant-loop-k
 invariant-loop-k l =
-    (l.k ≤ l.n) × (length l.lines ≡ 400) × (length l.levels ≡ 200) × Sound l.s l.c × (l.context < 256) × (l.p ≤ 8 * length l.s + 23)
-    × (l.c.taken ≤ l.initial.c.taken + 14 * l.k) × Roomy l.o.lsb l.lines l.levels
-    × (pairs_of l.s (by_level l.look) l.cum l.o (l.n - l.k) l.k l.context l.c l.p l.lines l.levels ≡ pairs_of l.s (by_level l.look)
-    l.cum l.o l.n 0 0 l.initial.c l.initial.p l.initial.lines l.initial.levels)
-
-abbrev pub decreases-loop-k : goal.decreases-loop-k
-decreases-loop-k l = l.n - l.k
+    Sound l.s l.at.coder × (l.context < 256) × (l.at.side ≤ 8 * length l.s + 23)
+    × (l.at.coder.taken ≤ l.fn.from.coder.taken + 14 * l.k) × Roomy l.o.lsb l.lines l.levels
+    × (pairs_of l.s (by_level l.look) l.cum l.o (l.n - l.k) l.k l.context l.at.coder l.at.side l.lines l.levels
+    ≡ pairs_of l.s (by_level l.look) l.cum l.o l.n 0 0 l.fn.from.coder l.fn.from.side l.initial.lines l.initial.levels)
