@@ -9,27 +9,29 @@
 
 ghost use Rattle.std.specs.Prelude.{◌≡◌};
 ghost use Rattle.code_word_laws.specs.Checks.{IsCheckRows, with_data};
-ghost use Rattle.code_word_answers.specs.Answers.{made_number, corrected_number, corrected_count, corrected_bits, answers_number};
+ghost use Rattle.refusals.specs.Numbers.{number_of};
+ghost use Rattle.code_word_answers.specs.Answers.{corrected_count, corrected_bits};
 ghost use Rattle.code_word.specs.Make.{Makes};
 ghost use Rattle.code_word.specs.Correct.{Corrects, CorrectsEach};
 
-pub use code_word_answers::{Answers, Correction, Making};
+pub use code_word_answers::Correction;
+use refusals::Refusal;
 
 // The word's check semi-octets in front of its data (A.43 to A.45), in mode 2, 3 or 4.
-pub fn make(word: &mut [u8], mode: u32) -> Making
-    ensures { Makes mode word.old word.new (made_number result) }
+pub fn make(word: &mut [u8], mode: u32) -> Result<(), Refusal>
+    ensures { Makes mode word.old word.new (number_of result) }
 {
     if !code_word_settings::fits(mode, word.len()) {
-        return Making::Unsuitable;
+        return Err(Refusal::Setting);
     }
     let n = code_word_settings::distance(mode as usize) - 1;
     if !code_word_settings::semi_octets(word, n) {
-        return Making::Unsuitable;
+        return Err(Refusal::Setting);
     }
     let rows = code_word_encoder::rows(mode);
     let r = code_word_encoder::divide(&rows, word, n);
     code_word_encoder::put_checks(word, n, r);
-    Making::Made
+    Ok(())
 }
 
 // What each data semi-octet adds to the check semi-octets in a mode: made once for many words, and lent to `with_data`.
@@ -40,6 +42,7 @@ pub fn check_rows(mode: u32) -> [u32; 208]
 }
 
 // The sum of check semi-octets, packed, with what c at data place k adds: over all data of a word, from 0, they are the word's.
+#[tactic(auto, unfolding(code_word_laws::specs::Checks::with_data))]
 pub fn with_data(rows: &[u32; 208], k: usize, c: u8, r: u32) -> u32
     ensures { result ≡ with_data rows.now k c r }
 {
@@ -50,50 +53,49 @@ pub fn with_data(rows: &[u32; 208], k: usize, c: u8, r: u32) -> u32
 }
 
 // Corrects a word of semi-octets to the only valid one of its length within m - 1 places.
-pub fn correct(word: &mut [u8], mode: u32) -> Correction
-    ensures { Corrects mode word.old word.new (corrected_number result) (corrected_count result) (corrected_bits result) }
+pub fn correct(word: &mut [u8], mode: u32) -> Result<Correction, Refusal>
+    ensures { Corrects mode word.old word.new (number_of result) (corrected_count result) (corrected_bits result) }
 {
     if !code_word_settings::fits(mode, word.len()) {
-        return Correction::Unsuitable;
+        return Err(Refusal::Setting);
     }
     if !code_word_settings::semi_octets(word, 0) {
-        return Correction::Unsuitable;
+        return Err(Refusal::Setting);
     }
-    let most = (mode - 1) as u8;
     let t = code_word_syndromes::table();
-    let both = code_word_corrector::correct_word(&t, word, most);
-    let count = (both % 16) as u8;
-    if most < count {
-        return Correction::None;
-    }
-    Correction::Corrected(count, (both / 16) as u8)
+    code_word_corrector::correct_word(&t, word, (mode - 1) as u8).ok_or(Refusal::Beyond)
 }
 
 // Corrects as many words as there are counts, with the semi-octets in one buffer and the bits in another: the words stand one after the
 // other, as even in length as can be, the longer first. The table is made once for all of them.
-pub fn correct_each(words: &mut [u8], mode: u32, counts: &mut [u8], bits: &mut [u8]) -> Answers
+pub fn correct_each(
+    words: &mut [u8],
+    mode: u32,
+    counts: &mut [u8],
+    bits: &mut [u8],
+) -> Result<(), Refusal>
     ensures { CorrectsEach mode words.old counts.old bits.old words.new
-        counts.new bits.new (answers_number result) }
+        counts.new bits.new (number_of result) }
 {
-    if counts.len() == 0 {
-        return Answers::Unsuitable;
+    if counts.is_empty() {
+        return Err(Refusal::Setting);
     }
     if bits.len() != counts.len() {
-        return Answers::Unsuitable;
+        return Err(Refusal::Setting);
     }
     let long = words.len() / counts.len();
     let over = words.len() % counts.len();
     if !code_word_settings::fits(mode, long) {
-        return Answers::Unsuitable;
+        return Err(Refusal::Setting);
     }
     if !code_word_settings::fits_longer(mode, long, over) {
-        return Answers::Unsuitable;
+        return Err(Refusal::Setting);
     }
     if !code_word_settings::semi_octets(words, 0) {
-        return Answers::Unsuitable;
+        return Err(Refusal::Setting);
     }
     let most = (mode - 1) as u8;
     let t = code_word_syndromes::table();
     code_word_corrector::correct_words(&t, words, long, over, most, counts, bits);
-    Answers::Given
+    Ok(())
 }

@@ -1,2 +1,2 @@
--- The numbers and values of what making and correcting words answer.
+-- The counts of each answer to correcting a word (Answers).
 pub mod Answers

@@ -1,7 +1,7 @@
 -- Many words that stand one after the other, as even in length as can be: where each starts, that all of them are the whole, and what a
 -- turn of the loop over them keeps.
 -- Assumes nothing.
-use mathlib.Core.Path.{◌≡◌, refl, sym, ap, ap₂, ◌∙◌, subst₂}
+use mathlib.Core.Path.{◌≡◌, refl, sym, ap, ap₂, ◌∙◌}
 use mathlib.Core.Bool.{Bool, true, false, cond}
 use mathlib.Core.List.{List, [], ◌∷◌, ◌++◌}
 use Prim.Native.Nat.{ℕ, zero, suc, ◌+◌, ◌*◌, ◌/◌, ◌%◌, ◌≤◌, ◌<◌, min}
@@ -12,8 +12,11 @@ use lib.Dec.{eqb, ltb}
 use lib.ListN.{length, get_or, take, drop, set, length-set, length-append, length-drop}
 use lib.Seq.{get_or-set_same, get_or-set_other, length-take-le, take_at, drop_at, drop-drop}
 use borrow.Author.Tests.{eqb-true, eqb-false, ltb-true, ltb-false}
+use Rattle.std.specs.Prelude.{Option, Some, None, MatchOption}
+use Rattle.std.specs.Option.{unwrap_or}
+use Rattle.code_word_answers.specs.declared.Correction.{Correction}
 use Rattle.code_word_laws.specs.Word.{SemiOctets}
-use Rattle.code_word_laws.specs.Correct.{WordCorrected, length_at, start_at, EachCorrected}
+use Rattle.code_word_laws.specs.Correct.{WordCorrected, length_at, start_at}
 use Rattle.code_word_laws.specs.Corrector.{Dealt}
 use Rattle.code_word_laws.proofs.Register.{drop-semi-octets}
 use Rattle.code_word_laws.proofs.Division.{take-semi-octets}
@@ -62,19 +65,7 @@ pub record MendedTo (mode many n : ℕ) (old : List ℕ) (i at : ℕ) (new count
   pub behind : drop at new ≡ drop at old
   pub each : (j : ℕ) → j < i → WordCorrected mode (piece many n j old) (piece many n j new) (get_or counts j 0) (get_or bits j 0)
 
-pub batch-first : (mode : ℕ) (old counts bits : List ℕ) → length bits ≡ length counts
-    → MendedTo mode (length old) (length counts) old 0 0 old counts bits
-batch-first mode old counts bits e =
-    record { place = refl; as_long = refl; as_many = refl; as_many_bits = e; behind = refl; each = λ j h. absurd (omega arith) }
-
 module _ (mode many n : ℕ) (old : List ℕ) (i at : ℕ) (new counts bits : List ℕ) (k : MendedTo mode many n old i at new counts bits) where
-  pub batch-last : many ≡ length old → n ≤ i → EachCorrected mode old new counts bits
-  batch-last m h j b =
-      subst₂ (λ (v w : List ℕ). WordCorrected mode v w (get_or counts j 0) (get_or bits j 0))
-      (ap₂ (λ (x y : ℕ). piece x y j old) m (sym k.as_many))
-      (ap₂ (λ (x y : ℕ). piece x y j new) (sym k.as_long) (sym k.as_many))
-      (k.each j (omega (arith, k.as_many)))
-
   module _ (long : ℕ) (is : long ≡ length_at many n i) (i-in : i < n) where
     -- the end of word i lies in the words
     pub batch-inside : at + long ≤ length new
@@ -152,12 +143,11 @@ module _ (mode many n : ℕ) (old : List ℕ) (i at : ℕ) (new counts bits : Li
 pub dealt-is : {many n long over r : ℕ} (i : ℕ) → Dealt many n long over → r ≡ cond (ltb i over) (long + 1) long → r ≡ length_at many n i
 dealt-is i d e = e ∙ ap₂ (λ (x y : ℕ). cond (ltb i x) (y + 1) y) d.rest d.quotient
 
-least : (q r i : ℕ) (b : Bool) → ltb i r ≡ b → q ≤ cond b (q + 1) q
-least q r i true e = omega arith
-least q r i false e = omega arith
+-- ---- the counts of a word
 
-pub dealt-short : (many n long over : ℕ) → Dealt many n long over → long ≤ 15
-dealt-short many n long over d =
-    let s = d.short 0 d.some in
-    let l = least (many / n) (many % n) 0 (ltb 0 (many % n)) refl in
-    omega (arith, d.quotient)
+-- those that are left of a word are its own, or t + 1 and 0 where it has none
+pub told : (t : ℕ) (old new : List ℕ) (r : Option Correction) (f : Correction) → f ≡ unwrap_or r (record { count = t + 1; bits = 0 })
+    → MatchOption r (WordCorrected (t + 1) old new (t + 1) 0) (λ c. (c.count ≤ t) × WordCorrected (t + 1) old new c.count c.bits)
+    → WordCorrected (t + 1) old new f.count f.bits
+told t old new None f e m = rw e m
+told t old new (Some c) f e m = rw e m.1

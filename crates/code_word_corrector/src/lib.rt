@@ -4,38 +4,48 @@
 // semi-octets.
 #![tactic(auto)]
 
-ghost use Rattle.std.specs.Prelude.{cond, ◌≡◌, ◌+◌, ◌/◌, ◌%◌, ◌≤◌, ltb, length};
+ghost use Rattle.std.specs.Prelude.{cond, ◌≡◌, ◌+◌, ◌/◌, ◌%◌, ◌≤◌, ltb, length, MatchOption};
 ghost use Rattle.code_word_laws.specs.Word.{SemiOctets};
 ghost use Rattle.code_word_laws.specs.Correct.{WordCorrected, EachCorrected};
 ghost use Rattle.code_word_laws.specs.Corrector.{TableFor, WordFor, Dealt};
 
+use code_word_answers::Correction;
 use code_word_errors::{accepted, correct_one, take_off};
 use code_word_locator::error_word;
 use code_word_syndromes::{both_counts, clear, syndromes};
 
-// Corrects one word with a lent table: its changed semi-octets and 16 times its changed bits, or t + 1 where no valid word is near, and
-// then the word is as it was lent.
-pub fn correct_word(t: &[u32; 512], word: &mut [u8], most: u8) -> u32
+// Both counts of the errors that were taken off, from one number.
+fn counted(both: u32) -> Correction
+    requires { both ≤ 975 }
+    ensures count { result.count ≡ both % 16 }
+    ensures bits { result.bits ≡ both / 16 }
+{
+    Correction {
+        count: (both % 16) as u8,
+        bits: (both / 16) as u8,
+    }
+}
+
+// Corrects one word with a lent table, and answers its counts, or none where no valid word is near, and then the word is as it was lent.
+pub fn correct_word(t: &[u32; 512], word: &mut [u8], most: u8) -> Option<Correction>
     requires { WordFor t.now word.old most }
-    ensures word_corrected { WordCorrected (most + 1) word.old word.new (result % 16) (result / 16) }
-    ensures upper_bound { result ≤ 975 }
+    ensures { MatchOption result (WordCorrected (most + 1) word.old word.new (most + 1) 0)
+        (λ found. (found.count ≤ most) × WordCorrected (most + 1) word.old word.new found.count found.bits) }
 {
     let s = syndromes(t, word);
     if clear(s, most) {
-        return 0;
+        return Some(Correction { count: 0, bits: 0 });
     }
-    let v = correct_one(t, word, s, most);
-    if v != 0 {
-        return both_counts(t, v);
+    if let Some(v) = correct_one(t, word, s, most) {
+        return Some(counted(both_counts(t, v)));
     }
     let e = error_word(t, s, most);
-    let both = take_off(t, word, e);
-    let count = (both % 16) as u8;
-    if accepted(t, word, most, count) {
-        return both;
+    let found = counted(take_off(t, word, e));
+    if !accepted(t, word, most, found.count) {
+        take_off(t, word, e);
+        return None;
     }
-    take_off(t, word, e);
-    most as u32 + 1
+    Some(found)
 }
 
 // The length of word i: one more for the words that come first.
@@ -43,10 +53,7 @@ fn dealt(long: usize, over: usize, i: usize) -> usize
     requires { long ≤ 15 }
     ensures { result ≡ cond (ltb i over) (long + 1) long }
 {
-    if i < over {
-        return long + 1;
-    }
-    long
+    if i < over { long + 1 } else { long }
 }
 
 // Corrects each word with a lent table, and leaves its counts, or t + 1 and 0 where it has none.
@@ -66,13 +73,15 @@ pub fn correct_words(
     ensures { EachCorrected (most + 1) words.old words.new counts.new bits.new }
 {
     let mut at = 0;
-    let mut i = 0;
-    while i < counts.len() {
+    for i in 0..counts.len() {
         let end = at + dealt(long, over, i);
-        let both = correct_word(t, &mut words[at..end], most);
-        counts[i] = (both % 16) as u8;
-        bits[i] = (both / 16) as u8;
+        let none = Correction {
+            count: most + 1,
+            bits: 0,
+        };
+        let found = correct_word(t, &mut words[at..end], most).unwrap_or(none);
+        counts[i] = found.count;
+        bits[i] = found.bits;
         at = end;
-        i += 1;
     }
 }

@@ -75,10 +75,10 @@ const SIX: [u32; 208] = [
 pub fn check_rows(mode: u32) -> [u32; 208]
     ensures { IsCheckRows mode result }
 {
-    match mode {
-        2..=4 => rows_of(mode),
-        _ => [0; 208],
+    if mode < 2 || 4 < mode {
+        return [0; 208];
     }
+    rows_of(mode)
 }
 
 // LLVM lays a match of three tables down as vectors, one of four as a table for each entry: so the zeros stand apart.

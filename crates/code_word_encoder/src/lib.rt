@@ -55,9 +55,7 @@ pub fn divide(rows: &[u64; 16], word: &[u8], n: usize) -> u64
     ensures { result ≡ register rows.now (drop n word.now) }
 {
     let mut r = 0;
-    let mut i = word.len();
-    while n < i {
-        i = i - 1;
+    for i in (n..word.len()).rev() {
         r = shift(rows, r, word[i]);
     }
     r
@@ -69,9 +67,7 @@ pub fn put_checks(word: &mut [u8], n: usize, register: u64)
     ensures { word.new ≡ with_checks n register (drop n word.old) }
 {
     let mut r = register;
-    let mut k = n;
-    while 0 < k {
-        k = k - 1;
+    for k in (0..n).rev() {
         word[k] = (r % 16) as u8;
         r = r / 16;
     }

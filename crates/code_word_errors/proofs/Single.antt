@@ -1,7 +1,7 @@
 -- One error taken off: a word's values change by those of the error alone, so what is left of its syndromes tells whether the word without
 -- it is valid.
 -- Assumes nothing.
-use mathlib.Core.Path.{◌≡◌, refl, sym, ap, ap₂, ◌∙◌}
+use mathlib.Core.Path.{◌≡◌, sym, ap, ap₂, ◌∙◌}
 use mathlib.Core.Logic.{◌≢◌}
 use mathlib.Core.List.{List, [], ◌∷◌}
 use Prim.Native.Nat.{ℕ, zero, suc, ◌+◌, ◌/◌, ◌%◌, ◌≤◌, ◌<◌}
@@ -25,7 +25,7 @@ use Rattle.code_word_laws.specs.Word.{
   bits_apart,
 }
 use Rattle.code_word_laws.specs.Correct.{WordCorrected}
-use Rattle.code_word_laws.specs.Corrector.{Row, Syndromes, Clear, both_of, Tried}
+use Rattle.code_word_laws.specs.Corrector.{Row, Syndromes, Clear, both_of}
 use Rattle.code_word_laws.proofs.Packed.{nibble-xor}
 use Rattle.code_word_laws.proofs.Changes.{
   changes-self,
@@ -97,12 +97,6 @@ taken-off-one t old s k v r from to short semi syndromes h l n row clear =
         ∙ ap₂ sum (sym (syndromes j (omega arith))) (ap (λ (x : ℕ). product v x) (power-power 2 j k) ∙ sym (row j (omega arith)))
         ∙ sym (nibble-xor j s r)
         ∙ clear j p (omega arith)
-
-pub tried-none : (mode : ℕ) (old : List ℕ) → Tried mode old old 0
-tried-none mode old = record { below = omega arith; one = λ n. absurd (n refl); kept = λ e. refl }
-
-pub tried-one : (mode : ℕ) (old new : List ℕ) (v : ℕ) → v < 16 → v ≢ 0 → WordCorrected mode old new 1 (ones v) → Tried mode old new v
-tried-one mode old new v l n m = record { below = l; one = λ z. m; kept = λ z. absurd (n z) }
 
 -- the bits of an error, from both its counts
 pub bits-of : (v b : ℕ) → v < 16 → b ≡ both_of (v % 16) → b / 16 ≡ ones v

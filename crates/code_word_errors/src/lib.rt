@@ -3,14 +3,15 @@
 // of at most 15 semi-octets.
 #![tactic(auto)]
 
-ghost use Rattle.std.specs.Prelude.{◌+◌, ◌≤◌, length};
+ghost use Rattle.std.specs.Prelude.{◌≡◌, ◌≢◌, ◌+◌, ◌≤◌, ◌<◌, length, MatchOption};
 ghost use Rattle.laws.specs.Decides.{Decides};
-ghost use Rattle.code_word_laws.specs.Corrector.{WordFor, Syndromes, Acceptable, Tried};
+ghost use Rattle.code_word_laws.specs.Word.{ones};
+ghost use Rattle.code_word_laws.specs.Correct.{WordCorrected};
+ghost use Rattle.code_word_laws.specs.Corrector.{WordFor, Syndromes, Acceptable};
 ghost use Rattle.code_word_laws.specs.Corrector.{Table, IsTakenOff};
 
-use code_word_syndromes::{both_counts, clear, row, syndromes, times};
+use code_word_syndromes::{both_counts, clear, row, syndrome, syndromes, times};
 use gf16::SemiOctet;
-use widening::wide;
 
 // Takes the errors off, and counts them: the changed semi-octets, and 16 times the changed bits.
 pub fn take_off(t: &[u32; 512], word: &mut [u8], e: u64) -> u32
@@ -20,13 +21,11 @@ pub fn take_off(t: &[u32; 512], word: &mut [u8], e: u64) -> u32
 {
     let mut rest = e;
     let mut both: u32 = 0;
-    let mut i = 0;
-    while i < word.len() {
+    for c in word.iter_mut() {
         let digit = (rest % 16) as u8;
-        word[i] = word[i] ^ digit;
+        *c = *c ^ digit;
         both = both + both_counts(t, digit);
         rest = rest / 16;
-        i += 1;
     }
     both
 }
@@ -36,36 +35,33 @@ pub fn accepted(t: &[u32; 512], word: &[u8], most: u8, count: u8) -> bool
     requires { WordFor t.now word.now most }
     ensures { Decides (Acceptable most count word.now) result }
 {
-    if most < count {
-        return false;
-    }
-    clear(syndromes(t, word), most)
+    count <= most && clear(syndromes(t, word), most)
 }
 
 // Takes one error off, where the syndromes are those of one: its value times its place is s1, and times its place again s2. The answer is
-// its value, 0 where it is not one error.
-pub fn correct_one(t: &[u32; 512], word: &mut [u8], s: u64, most: u8) -> u8
+// its value, or none where it is not one error.
+pub fn correct_one(t: &[u32; 512], word: &mut [u8], s: u64, most: u8) -> Option<u8>
     requires word_for { WordFor t.now word.old most }
     requires syndromes { Syndromes word.old s }
-    ensures { Tried (most + 1) word.old word.new result }
+    ensures { MatchOption result (word.new ≡ word.old)
+        (λ v. (v < 16) × (v ≢ 0) × WordCorrected (most + 1) word.old word.new 1 (ones v)) }
 {
-    let s1 = (s / 16 % 16) as u8;
-    let s2 = (s / 16 / 16 % 16) as u8;
-    let i2 = SemiOctet::inverse(SemiOctet(s2)).0;
+    let s1 = syndrome(s, 1);
+    let s2 = syndrome(s, 2);
+    let i2 = SemiOctet(s2).inverse().0;
     let v = times(t, i2, times(t, s1, s1));
     if v == 0 {
-        return 0;
+        return None;
     }
-    let i1 = SemiOctet::inverse(SemiOctet(s1)).0;
-    let place = times(t, i1, s2);
-    let k = wide(SemiOctet::logarithm(SemiOctet(place)));
+    let i1 = SemiOctet(s1).inverse().0;
+    let k = usize::from(SemiOctet(times(t, i1, s2)).logarithm());
     if word.len() <= k {
-        return 0;
+        return None;
     }
-    if clear(s ^ row(t, k, v), most) {
-        let new = word[k] ^ v;
-        word[k] = new;
-        return v;
+    if !clear(s ^ row(t, k, v), most) {
+        return None;
     }
-    0
+    let new = word[k] ^ v;
+    word[k] = new;
+    Some(v)
 }

@@ -1,2 +1,2 @@
--- What the tests of settings and elements ask.
+-- What the test of elements asks.
 pub mod Tests

@@ -23,13 +23,10 @@ pub fn distance(mode: usize) -> usize
 pub fn fits(mode: u32, long: usize) -> bool
     ensures { Decides (Fits mode long) result }
 {
-    match long {
-        2..=15 => match mode {
-            2..=4 => distance(mode as usize) - 1 <= long,
-            _ => false,
-        },
-        _ => false,
+    if mode < 2 || 4 < mode || 15 < long {
+        return false;
     }
+    distance(mode as usize) - 1 <= long
 }
 
 // Whether words that are one longer are taken too, where there are such words.
@@ -37,10 +34,7 @@ pub fn fits_longer(mode: u32, long: usize, over: usize) -> bool
     requires { long ≤ 15 }
     ensures { Decides (0 < over → Fits mode (long + 1)) result }
 {
-    if over == 0 {
-        return true;
-    }
-    fits(mode, long + 1)
+    over == 0 || fits(mode, long + 1)
 }
 
 // Whether the elements from place n on are semi-octets: whether all bits that occur in them are low.
@@ -48,11 +42,5 @@ pub fn semi_octets(word: &[u8], n: usize) -> bool
     requires { n ≤ length word.now }
     ensures { Decides (SemiOctets (drop n word.now)) result }
 {
-    let mut bits = 0;
-    let mut k = word.len();
-    while n < k {
-        k = k - 1;
-        bits = bits | word[k];
-    }
-    bits < 16
+    word[n..].iter().fold(0, |bits, c| bits | *c) < 16
 }

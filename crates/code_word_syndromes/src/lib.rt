@@ -7,10 +7,9 @@
 ghost use Rattle.std.specs.Prelude.{◌≡◌, ◌+◌, ◌%◌, ◌^◌, ◌≤◌, ◌<◌, length};
 ghost use Rattle.laws.specs.Decides.{Decides};
 ghost use Rattle.gf16.specs.Field.{product};
+ghost use Rattle.code_word_laws.specs.Packed.{nibble};
 ghost use Rattle.code_word_laws.specs.Word.{SemiOctets};
 ghost use Rattle.code_word_laws.specs.Corrector.{both_of, Table, Row, Syndromes, Clear};
-
-use widening::{long, wide};
 
 // Number 16 a + b: the digits from the lowest on are b times 2^(a j) for j = 0 .. 14, and the highest is a times b.
 // Its low half is entry 2 (16 a + b) and its high half the next: halves of 32 bits are built sixteen bytes at a time, numbers of 64 bits
@@ -95,9 +94,10 @@ pub fn times(t: &[u32; 512], a: u8, b: u8) -> u8
     requires table { Table t.now }
     requires a_bound { a < 16 }
     requires b_bound { b < 16 }
-    ensures { result ≡ product a b }
+    ensures value { result ≡ product a b }
+    ensures upper_bound { result < 16 }
 {
-    let at = 16 * wide(a) + wide(b);
+    let at = 16 * usize::from(a) + usize::from(b);
     (t[2 * at + 1] / 268435456) as u8
 }
 
@@ -107,7 +107,7 @@ pub fn both_counts(t: &[u32; 512], v: u8) -> u32
     ensures value { result ≡ both_of (v % 16) }
     ensures upper_bound { result ≤ 65 }
 {
-    let at = wide(240 + v % 16);
+    let at = usize::from(240 + v % 16);
     t[2 * at]
 }
 
@@ -118,8 +118,8 @@ pub fn row(t: &[u32; 512], a: usize, x: u8) -> u64
     requires x_bound { x < 16 }
     ensures { Row a x result }
 {
-    let at = 16 * a + wide(x);
-    long(t[2 * at]) + long(t[2 * at + 1]) * 4294967296
+    let at = 16 * a + usize::from(x);
+    u64::from(t[2 * at]) + u64::from(t[2 * at + 1]) * 4294967296
 }
 
 // The word's values at 2^0 .. 2^14, packed: its syndromes are those at 2^1 .. 2^(2 t).
@@ -130,12 +130,19 @@ pub fn syndromes(t: &[u32; 512], word: &[u8]) -> u64
     ensures { Syndromes word.now result }
 {
     let mut s: u64 = 0;
-    let mut i = 0;
-    while i < word.len() {
-        s = s ^ row(t, i, word[i]);
-        i += 1;
+    for (i, c) in word.iter().enumerate() {
+        s = s ^ row(t, i, *c);
     }
     s
+}
+
+// Syndrome j: digit j of the packed word.
+pub fn syndrome(s: u64, j: u8) -> u8
+    requires { j < 16 }
+    ensures value { result ≡ nibble j s }
+    ensures upper_bound { result < 16 }
+{
+    ((s >> (4 * j)) % 16) as u8
 }
 
 // The weight of the first digit past the 2 t syndromes, once they are the lowest.

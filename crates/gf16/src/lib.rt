@@ -3,7 +3,7 @@
 // proofs/Laws.antt has the field's laws. Nothing outside this crate depends on how a product is computed.
 #![tactic(auto)]
 
-ghost use Rattle.std.specs.Prelude.{◌≡◌, ◌*◌, ◌/◌, ◌%◌, ◌^◌, ◌≤◌, eqb};
+ghost use Rattle.std.specs.Prelude.{◌≡◌, ◌*◌, ◌/◌, ◌%◌, ◌^◌, ◌≤◌, ◌<◌, eqb};
 ghost use Rattle.gf16.specs.Field.{sum, product, power, inverse, logarithm};
 
 // An element of the field (document 01: semi-octet). A sum is that of the whole byte; the other operations look at the low four bits.
@@ -15,58 +15,58 @@ impl SemiOctet {
 
     pub const ONE: SemiOctet = SemiOctet(1);
 
-    // Whether the low four bits are those of the zero, which has no inverse.
-    pub fn is_zero(a: SemiOctet) -> bool
-        ensures { result ≡ eqb (a.0 % 16) 0 }
+    // Whether the low four bits are those of the zero, which has no inverse. No derived `==`: that compares the whole byte.
+    pub fn is_zero(self) -> bool
+        ensures { result ≡ eqb (self.0 % 16) 0 }
     {
-        let zero = SemiOctet::ZERO;
-        a.0 % 16 == zero.0
+        self.0 % 16 == SemiOctet::ZERO.0
     }
 
     // Whether the low four bits are those of the one, by which nothing changes.
-    pub fn is_one(a: SemiOctet) -> bool
-        ensures { result ≡ eqb (a.0 % 16) 1 }
+    pub fn is_one(self) -> bool
+        ensures { result ≡ eqb (self.0 % 16) 1 }
     {
-        let one = SemiOctet::ONE;
-        a.0 % 16 == one.0
+        self.0 % 16 == SemiOctet::ONE.0
     }
 
     // The field's sum: the coefficients' exclusive or.
-    pub fn sum(a: SemiOctet, b: SemiOctet) -> SemiOctet
-        ensures { result.0 ≡ sum a.0 b.0 }
+    #[tactic(auto, unfolding(crate::specs::Field::sum))]
+    pub fn sum(self, b: SemiOctet) -> SemiOctet
+        ensures { result.0 ≡ sum self.0 b.0 }
     {
-        SemiOctet(a.0 ^ b.0)
+        SemiOctet(self.0 ^ b.0)
     }
 
     // The logarithm to the base x: which power of x the element is, from 0 to 14. Zero is none, and has 15, which is no logarithm.
-    pub fn logarithm(a: SemiOctet) -> u8
-        ensures value { result ≡ logarithm a.0 }
+    pub fn logarithm(self) -> u8
+        ensures value { result ≡ logarithm self.0 }
         ensures upper_bound { result ≤ 15 }
     {
-        digit(LOGARITHMS, a.0)
+        digit(LOGARITHMS, self.0)
     }
 
     // The field's product: zero where a factor is, and else the power of x whose logarithm is the sum of theirs.
-    pub fn product(a: SemiOctet, b: SemiOctet) -> SemiOctet
-        ensures { result.0 ≡ product a.0 b.0 }
+    pub fn product(self, b: SemiOctet) -> SemiOctet
+        ensures { result.0 ≡ product self.0 b.0 }
     {
-        if SemiOctet::is_zero(a) {
+        if self.is_zero() {
             return SemiOctet::ZERO;
         }
-        if SemiOctet::is_zero(b) {
+        if b.is_zero() {
             return SemiOctet::ZERO;
         }
-        SemiOctet(powered(SemiOctet::logarithm(a) + SemiOctet::logarithm(b)))
+        SemiOctet(powered(self.logarithm() + b.logarithm()))
     }
 
     // The inverse of each element but zero, with what its logarithm lacks of 15; of zero it is zero.
-    pub fn inverse(a: SemiOctet) -> SemiOctet
-        ensures { result.0 ≡ inverse a.0 }
+    pub fn inverse(self) -> SemiOctet
+        ensures value { result.0 ≡ inverse self.0 }
+        ensures upper_bound { result.0 < 16 }
     {
-        if SemiOctet::is_zero(a) {
+        if self.is_zero() {
             return SemiOctet::ZERO;
         }
-        SemiOctet(powered(15 - SemiOctet::logarithm(a)))
+        SemiOctet(powered(15 - self.logarithm()))
     }
 }
 
@@ -87,7 +87,8 @@ fn digit(table: u64, i: u8) -> u8
 // The power n of x, for a sum of two logarithms. It is reduced by counting sixteen as one, since x^15 is 1.
 fn powered(n: u8) -> u8
     requires { n ≤ 30 }
-    ensures { result ≡ power 2 n }
+    ensures value { result ≡ power 2 n }
+    ensures upper_bound { result ≤ 15 }
 {
     digit(POWERS, n + n / 16)
 }

@@ -1,9 +1,11 @@
-// The functions of `code_word` under C names, for the tests and the benchmark in tests/code_word: the enum answers as document 01's
-// numbers. It stands over `code_word`, and each contract is that of the function called, with the number in place of the enum.
+// The functions of `code_word` under C names, for the tests and the benchmark in tests/code_word: the answers as document 01's numbers.
+// It stands over `code_word`, and each contract is that of the function called, with the number in place of the answer.
 #![tactic(auto)]
 
 ghost use Rattle.code_word.specs.Make.{Makes};
 ghost use Rattle.code_word.specs.Correct.{Corrects, CorrectsEach};
+
+use refusals::numbered;
 
 #[repr(C)]
 #[derive(Clone, Copy)]
@@ -18,7 +20,7 @@ pub struct WordAnswer {
 pub extern "C" fn word_make(word: &mut [u8], mode: u32) -> u8
     ensures { Makes mode word.old word.new result }
 {
-    code_word::make(word, mode).number()
+    numbered(code_word::make(word, mode))
 }
 
 // A word corrected: the answer's number and the counts.
@@ -26,11 +28,17 @@ pub extern "C" fn word_make(word: &mut [u8], mode: u32) -> u8
 pub extern "C" fn word_correct(word: &mut [u8], mode: u32) -> WordAnswer
     ensures { Corrects mode word.old word.new result.number result.count result.bits }
 {
-    let found = code_word::correct(word, mode);
-    WordAnswer {
-        number: found.number(),
-        count: found.count(),
-        bits: found.bits(),
+    match code_word::correct(word, mode) {
+        Ok(found) => WordAnswer {
+            number: 0,
+            count: found.count,
+            bits: found.bits,
+        },
+        Err(refusal) => WordAnswer {
+            number: refusal.number(),
+            count: 0,
+            bits: 0,
+        },
     }
 }
 
@@ -45,5 +53,5 @@ pub extern "C" fn word_correct_each(
     ensures { CorrectsEach mode words.old counts.old bits.old words.new
         counts.new bits.new result }
 {
-    code_word::correct_each(words, mode, counts, bits).number()
+    numbered(code_word::correct_each(words, mode, counts, bits))
 }

@@ -5,5 +5,5 @@ use Rattle.code_word_locator.proofs.minor_two.Goals as goal
 pub returns : goal.returns
 returns c =
     let a = c.args in
-    let u = minor-two-is a.a a.b a.c a.d c.times.ensures c.times-2.ensures in
+    let u = minor-two-is a.a a.b a.c a.d c.times.ensures.value c.times-2.ensures.value in
     record { value = u.0; upper_bound = u.1 }

@@ -1,22 +1,17 @@
--- `code_word_settings::semi_octets` meets its contract: each turn takes in the bits of the element in front of those taken in before.
--- Assumes nothing.
+-- `code_word_settings::semi_octets` meets its contract: the bits of all elements are low where each element is a semi-octet. Assumes nothing.
 use mathlib.Core.Path.{◌≡◌}
-use native.Mathlib.Omega.{arith}
+use Prim.Native.Nat.{ℕ, ◌-◌}
 use borrow.Author.Rules.{rules}
-use Rattle.code_word_settings.proofs.Tests.{covers-first, covers-next, covers-last}
+use lib.Bits.{bit_or}
+use lib.ListN.{drop, take, length}
+use Rattle.std.proofs.iter.runs.Made.{chains}
+use Rattle.std.proofs.lemmas.List.{take_rest}
+use Rattle.std.specs.List.{fold}
+use Rattle.code_word_settings.proofs.Tests.{all-low}
 use Rattle.code_word_settings.proofs.semi_octets.Goals as goal
-
-pub loop-k-init : goal.loop-k-init
-loop-k-init c = (search rules, search rules, covers-first c.args.word.now)
-
-pub loop-k-preserved : goal.loop-k-preserved
-loop-k-preserved c =
-    let l = c.loop-k in
-    (search rules, search rules, covers-next c.args.word.now l.k l.bits (omega arith) (omega arith) l.invariant.2)
 
 pub returns : goal.returns
 returns c =
-    let l = c.loop-k in
-    let a = c.args in
-    let e : l.k ≡ a.n = omega arith in
-    covers-last a.word.now a.n l.k l.bits e l.invariant.2
+    let w = c.args.word.now in
+    let e : c.fold.result ≡ fold (λ (b x : ℕ). bit_or b x) 0 (take (length w - c.args.n) (drop c.args.n w)) = search (rules, chains) in
+    all-low _ c.fold.result (rw take_rest at e)

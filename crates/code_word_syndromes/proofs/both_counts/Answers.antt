@@ -8,7 +8,7 @@ use Rattle.code_word_syndromes.proofs.both_counts.Goals as goal
 
 pub returns : goal.returns
 returns c = let d = c.args.v % 16 in
-    let e = ap (λ (i : ℕ). get_or c.args.t.now (2 * i) 0) c.wide-at.ensures.value ∙ c.requires.counts d (omega arith) in
+    let e = ap (λ (i : ℕ). get_or c.args.t.now (2 * i) 0) c.from-at.ensures ∙ c.requires.counts d (omega arith) in
     record {
       value = e;
       upper_bound = rw e (both-few d);

@@ -11,6 +11,6 @@ returns c =
     let a = c.args.a in
     let x = c.args.x in
     λ j l.
-    ap₂ (λ (p q : ℕ). nibble j (p + q * 4294967296)) c.long.ensures.value c.long-2.ensures.value
-    ∙ ap (λ (i : ℕ). nibble j (number_at c.args.t.now (16 * a + i))) c.wide.ensures.value
+    ap₂ (λ (p q : ℕ). nibble j (p + q * 4294967296)) c.from-2.ensures c.from-3.ensures
+    ∙ ap (λ (i : ℕ). nibble j (number_at c.args.t.now (16 * a + i))) c.from.ensures
     ∙ c.requires.table.spread a x j (omega arith) (omega arith) l

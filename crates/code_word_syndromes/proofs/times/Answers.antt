@@ -17,8 +17,10 @@ read {t} {a} {b} table p q e f =
 
 pub overflow_cast-result : goal.overflow_cast-result
 overflow_cast-result c =
-    let e = read c.requires.table (omega arith) (omega arith) c.wide.ensures.value c.wide-2.ensures.value in
+    let e = read c.requires.table (omega arith) (omega arith) c.from.ensures c.from-2.ensures in
     omega (arith, e, product_lt c.args.a c.args.b)
 
 pub returns : goal.returns
-returns c = read c.requires.table (omega arith) (omega arith) c.wide.ensures.value c.wide-2.ensures.value
+returns c =
+    let e = read c.requires.table (omega arith) (omega arith) c.from.ensures c.from-2.ensures in
+    record { value = e; upper_bound = omega (arith, e, product_lt c.args.a c.args.b) }

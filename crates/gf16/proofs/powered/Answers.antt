@@ -4,5 +4,5 @@ use native.Mathlib.Omega.{arith}
 use Rattle.gf16.proofs.Logarithms.{power-looked}
 use Rattle.gf16.proofs.powered.Goals as goal
 
-pub returns : goal.returns
-returns c = c.digit.ensures.value ∙ power-looked c.args.n (omega arith)
+pub returns-clause-value : goal.returns-clause-value
+returns-clause-value c = c.digit.ensures.value ∙ power-looked c.args.n (omega arith)
