@@ -1,11 +1,10 @@
 -- The late low bits of LSB mode 1 (5.4.2.8), line after line: the turns of the loop over the lines, and the room that they leave.
 -- Assumes nothing.
-use mathlib.Core.Path.{◌≡◌, refl, ap}
+use mathlib.Core.Path.{◌≡◌, refl}
 use mathlib.Core.Bool.{Bool, true, false}
 use mathlib.Core.List.{List}
 use Prim.Native.Nat.{ℕ, suc, ◌+◌, ◌-◌, ◌/◌, ◌≤◌, ◌<◌}
 use native.Mathlib.Omega.{arith}
-use native.Mathlib.Nat.{sub-zero}
 use lib.Dec.{eqb}
 use lib.ListN.{length, get_or, set}
 use lib.Seq.{get_or-set_same, get_or-set_other}
@@ -14,7 +13,6 @@ use mir.Syntax.{w32}
 use mir.Val.{SFits}
 use borrow.Author.Tests.{eq-eqb, ne_eqb, eqb-true, eqb-false}
 use Rattle.frame_residual.specs.Residual.{line, stop, late_of}
-use Rattle.frame_pairs.specs.Sound.{Roomy, Small}
 use Rattle.frame_finish.specs.Finish.{lates_of}
 
 -- ---- a line that fits in 32 bits
@@ -27,10 +25,6 @@ small-fits (pos n) x h l = let b : n < 2147483648 = omega arith in record { sfit
 small-fits (negsuc n) x h l = let b : n < 2147483648 = omega arith in record { sfits = b }
 
 -- ---- the lines k .. n - 1 are to come
-
-pub lates-first : (s levels : List ℕ) (n : ℕ) (lines : List ℤ) (p left : ℕ)
-    → lates_of s levels (n - 0) 0 lines p left ≡ lates_of s levels n 0 lines p left
-lates-first s levels n lines p left = ap (λ (m : ℕ). lates_of s levels m 0 lines p left) (sub-zero n)
 
 pub lates-done : (s levels : List ℕ) (n k : ℕ) (lines : List ℤ) (p left : ℕ) → n ≤ k → lates_of s levels (n - k) k lines p left ≡ lines
 unfolding lates_of
@@ -72,9 +66,6 @@ pub record RoomFrom (k : ℕ) (levels : List ℕ) (lines : List ℤ) : Type 0 wh
   pub small : (i : ℕ) → nat_abs (get_or lines i (pos 0)) ≤ 32767
   pub room : (i : ℕ) → k ≤ i → (get_or levels (i / 2) 0 ≡ 0 → ⊥) → nat_abs (get_or lines i (pos 0)) + 1 ≤ 32767
 
-pub room-first : (levels : List ℕ) (lines : List ℤ) → Roomy 1 lines levels → RoomFrom 0 levels lines
-room-first levels lines r = record { small = λ i. (r i).0; room = λ i h z. (r i).1 (omega arith) }
-
 pub room-skip : (k : ℕ) (levels : List ℕ) (lines : List ℤ) → RoomFrom k levels lines → RoomFrom (k + 1) levels lines
 room-skip k levels lines r = record { small = r.small; room = λ i h z. r.room i (omega arith) z }
 
@@ -97,6 +88,3 @@ step k levels lines v h z b r = record { small = λ i. small_at i (eqb i k) refl
 pub room_next : (k : ℕ) (levels : List ℕ) (lines : List ℤ) (x v w : ℤ) → k < length lines → (get_or levels (k / 2) 0 ≡ 0 → ⊥)
     → x ≡ get_or lines k (pos 0) → w ≡ v → nat_abs v ≤ nat_abs x + 1 → RoomFrom k levels lines → RoomFrom (k + 1) levels (set lines k w)
 room_next k levels lines x v w h z y o a r = rw o (step k levels lines v h z (rw y at a) r)
-
-pub room-last : (k : ℕ) (levels : List ℕ) (lines : List ℤ) → RoomFrom k levels lines → Small lines
-room-last k levels lines r = r.small

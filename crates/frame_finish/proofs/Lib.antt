@@ -1,3 +1,2 @@
--- The late low bits line after line, and the copy to the lent buffers.
+-- The late low bits line after line.
 pub mod LateLines
-pub mod Copying

@@ -11,8 +11,6 @@ ghost use Rattle.frame_finish.specs.Finish.{lates_of, finished_of, sent_bits};
 ghost use Rattle.frame_pairs.specs.Pairs.{spectrum_given};
 ghost use Rattle.frame_pairs.specs.Sound.{Working, Small};
 
-use frame_residual::LateRead;
-
 // The late low bits of LSB mode 1, into the first n lines.
 fn read_lates(s: &[u8], levels: &[u8], n: usize, lines: &mut [i32], start: usize, room: usize)
     requires left_in { LeftIn s.now start room }
@@ -23,30 +21,15 @@ fn read_lates(s: &[u8], levels: &[u8], n: usize, lines: &mut [i32], start: usize
 {
     let mut p = start;
     let mut left = room;
-    let mut k = 0;
-    while k < n {
-        let at = k;
-        k = k + 1;
-        if levels[at / 2] != 0 {
-            let got = frame_residual::read_late(s, lines[at], p, left);
-            let LateRead::Line(v, next, fewer) = got else {
+    for k in 0..n {
+        if levels[k / 2] != 0 {
+            let Some(late) = frame_residual::read_late(s, lines[k], p, left) else {
                 return;
             };
-            lines[at] = v;
-            p = next;
-            left = fewer;
+            lines[k] = late.value;
+            p = late.next;
+            left = late.left;
         }
-    }
-}
-
-fn copy(lines: &[i32], out: &mut [i32])
-    requires { length out.old ≤ length lines.now }
-    ensures { out.new ≡ take (length out.old) lines.now }
-{
-    let mut i = 0;
-    while i < out.len() {
-        out[i] = lines[i];
-        i = i + 1;
     }
 }
 
@@ -77,13 +60,13 @@ pub fn finish(
     ensures small { Small spectrum.new }
     ensures upper_bound { result ≤ 400 }
 {
-    frame_residual::clear(bits);
+    let n = spectrum.len();
+    bits.fill(0);
     if lsb == 0 {
-        let n = bits.len();
-        copy(lines, spectrum);
+        spectrum.copy_from_slice(&lines[..n]);
         return frame_residual::read_residual(s, lines, p, left, n, bits);
     }
     read_lates(s, levels, last, lines, p, left);
-    copy(lines, spectrum);
+    spectrum.copy_from_slice(&lines[..n]);
     0
 }

@@ -10,8 +10,5 @@ use Rattle.frame_finish.proofs.read_lates.Given as goal
 
 abbrev pub invariant-loop-k : goal.invariant-loop-k
 invariant-loop-k l =
-    (l.k ≤ l.n) × (length l.lines ≡ 400) × (l.p + l.left ≤ 8 * length l.s) × RoomFrom l.k l.levels l.lines
+    (l.p + l.left ≤ 8 * length l.s) × RoomFrom l.k l.levels l.lines
     × (lates_of l.s l.levels (l.n - l.k) l.k l.lines l.p l.left ≡ lates_of l.s l.levels l.n 0 l.initial.lines l.start l.room)
-
-abbrev pub decreases-loop-k : goal.decreases-loop-k
-decreases-loop-k l = l.n - l.k
