@@ -1,8 +1,6 @@
 -- What was read fits the buffer. Assumes nothing.
-use Rattle.std.specs.Prelude.{ℕ, ◌≤◌}
-use Rattle.input.specs.declared.Input.{Input}
-use Rattle.input.specs.declared.Input.TheVariants.{Bytes, Failed}
+use Rattle.std.specs.Prelude.{ℕ, ◌≤◌, Result, Ok, Err}
 
-abbrev pub InputFits : Input → ℕ → Type 0
-InputFits (Bytes n) most = n ≤ most
-InputFits Failed most = Unit {0}
+abbrev pub InputFits : {E : Type 0} → Result ℕ E → ℕ → Type 0
+InputFits (Ok n) most = n ≤ most
+InputFits (Err e) most = Unit {0}

@@ -5,28 +5,20 @@
 ghost use Rattle.std.specs.Prelude.{length};
 ghost use Rattle.input.specs.Input.{InputFits};
 
+use std::io;
 use std::io::Read;
 
-// How much was read before the input ended or the buffer was full.
-#[derive(Clone, Copy)]
-pub enum Input {
-    Bytes(usize),
-    Failed,
-}
-
-// Reads to the end of the input, however it arrives, or until the buffer is full.
-pub fn read_all<R: Read>(from: &mut R, buffer: &mut [u8]) -> Input
+// Reads to the end of the input, however it arrives, or until the buffer is full, and answers how much was read.
+pub fn read_all<R: Read>(from: &mut R, buffer: &mut [u8]) -> io::Result<usize>
     ensures { InputFits result (length buffer.old) }
 {
     let mut done = 0;
     while done < buffer.len() {
-        let Ok(more) = from.read(&mut buffer[done..]) else {
-            return Input::Failed;
-        };
+        let more = from.read(&mut buffer[done..])?;
         if more == 0 {
-            return Input::Bytes(done);
+            return Ok(done);
         }
         done += more;
     }
-    Input::Bytes(done)
+    Ok(done)
 }
