@@ -1,6 +1,5 @@
--- The settings: a rate and a duration that the code names are those of the definition, and one computed test over all twenty settings gives
--- what the reader uses of one.
--- Assumes nothing.
+-- The settings: a rate and a duration of the tables are in range, and one computed test over all twenty settings gives what the reader
+-- uses of one. Assumes nothing.
 use mathlib.Core.Path.{◌≡◌, refl, subst, sym}
 use mathlib.Core.Bool.{Bool, true, false, cond}
 use Rattle.std.specs.Prelude.{Option, None, Some}
