@@ -2,7 +2,7 @@
 -- Assumes nothing.
 use mathlib.Core.Path.{◌≡◌, refl, sym, ap, ◌∙◌}
 use mathlib.Core.List.{List}
-use Prim.Native.Nat.{ℕ, zero, suc, ◌/◌, ◌≤◌}
+use Prim.Native.Nat.{ℕ, zero, suc, ◌/◌}
 use native.Mathlib.Omega.{arith}
 use lib.ListN.{length, take, get_or, replicate}
 use lib.IntN.{ℤ, pos}
@@ -12,21 +12,16 @@ use Rattle.coder_tables.proofs.Rules.{look-length, spectrum-tables}
 use Rattle.coder_tables.proofs.LayoutRules.{length-by-context, by-level-back}
 use Rattle.frame_bits.specs.Read.{Read, value, cause}
 use Rattle.frame_settings.specs.Settings.{rate_offset}
-use Rattle.frame_pair.specs.Pair.{Streams}
+use Rattle.frame_pair.specs.declared.Streams.{Streams}
 use Rattle.frame_pair.specs.Sound.{PairTables}
-use Rattle.frame_pairs.specs.Pairs.{Spectrum, pairs_of, pairs_given}
-use Rattle.frame_residual.specs.Residual.{Residual, left_of, left_given}
+use Rattle.frame_pairs.specs.Pairs.{Spectrum, pairs_of}
+use Rattle.frame_residual.specs.Residual.{Residual, left_of}
 use Rattle.frame_spectral.specs.Spectral.{Spectral, pair_setting, spectral_of, spectral_from}
 use Rattle.frame_finish.specs.Finish.{finished_of, sent_bits}
-use Rattle.frame_pairs.specs.Sound.{Roomy, GoodPairs}
-use Rattle.frame_residual.specs.Sound.{GoodLeft}
+use Rattle.frame_pairs.specs.Sound.{Roomy}
 use Rattle.frame_settings.specs.declared.Setting.{Setting}
 use Rattle.frame_side.specs.declared.Head.{Head}
 use Rattle.frame_coder.specs.declared.Coder.{Coder}
-use Rattle.frame_pairs.specs.declared.PairsRead.{PairsRead}
-use Rattle.frame_pairs.specs.declared.PairsRead.TheVariants as pairs_read
-use Rattle.frame_residual.specs.declared.Left.{Left}
-use Rattle.frame_residual.specs.declared.Left.TheVariants as left
 
 -- ---- the tables
 
@@ -101,20 +96,3 @@ spectral-is s r h x lsb last n taken q left number out bits i j m b o =
     let d : out ≡ take r.lines (finished_of s h.lsb_mode h.last_line x q left) = rw (i, j, m) at o in
     ap (λ (t : Residual). value (record { symbols = taken; lines = out; residual = t }) q) c
     ∙ ap (λ (l : List ℤ). value (record { symbols = taken; lines = l; residual = sent_bits s h.lsb_mode r.lines x q left }) q) d
-
--- the two refusals: g is what was answered, k its cause
-pub pairs-refused :
-    (s : List ℕ) (r : Setting) (h : Head) (c : Coder) (p : ℕ) (g : PairsRead) (l : List ℤ) (m : List ℕ) (k lsb n : ℕ)
-    → pairs_at s r h c p ≡ pairs_given g l m → g ≡ pairs_read.Cause k → GoodPairs s lsb n c g l m
-    → (cause k ≡ spectral_from s r h c p) × ((1 ≤ k) × (k ≤ 7))
-pairs-refused s r h c p g l m k lsb n f i a =
-    let b : GoodPairs s lsb n c (pairs_read.Cause k) l m = rw i at a in
-    (sym (spectral-pairs s r h c p k (rw i at f)), (omega (arith, b.0), omega (arith, b.1)))
-
-pub left-refused :
-    (s : List ℕ) (r : Setting) (h : Head) (c d : Coder) (p q : ℕ) (x : Spectrum) (g : Left) (k : ℕ)
-    → pairs_at s r h c p ≡ value x (record { coder = d; side = q }) → left_given g q ≡ left_of (length s) q d → g ≡ left.Cause k
-    → GoodLeft (length s) q g → (cause k ≡ spectral_from s r h c p) × ((1 ≤ k) × (k ≤ 7))
-left-refused s r h c d p q x g k f o i a =
-    let b : k ≡ 7 = rw i at a in
-    (sym (spectral-left s r h c d p q k x f (sym (rw i at o))), (omega (arith, b), omega (arith, b)))

@@ -1,5 +1,5 @@
 -- The spectral data and what follows them (5.4.2.7, 5.4.2.8), in the order of reading. Assumes nothing.
-use Rattle.std.specs.Prelude.{◌≡◌, List, ℕ, ◌/◌, length, take, replicate, ℤ, pos}
+use Rattle.std.specs.Prelude.{◌≡◌, Result, Ok, Err, List, ℕ, ◌/◌, length, take, replicate, ℤ, pos}
 use Rattle.coder_tables.specs.Tables.{look_table, spectrum_table}
 use Rattle.frame_bits.specs.Read.{Read, value, cause, and_then}
 use Rattle.frame_settings.specs.Settings.{rate_offset, half_of}
@@ -10,7 +10,8 @@ use Rattle.frame_coder.specs.declared.Coder.{Coder}
 use Rattle.frame_side.specs.declared.Head.{Head}
 use Rattle.frame_pairs.specs.declared.PairSetting.{PairSetting}
 use Rattle.frame_spectral.specs.declared.SpectralRead.{SpectralRead}
-use Rattle.frame_spectral.specs.declared.SpectralRead.TheVariants as spectral_read
+use Rattle.refusals.specs.declared.Cause.{Cause}
+use Rattle.refusals.specs.Numbers.{cause_number}
 use Rattle.frame_finish.specs.Finish.{finished_of, sent_bits}
 
 -- what follows the TNS data: the number of symbols taken, the lines and the residual bits, NE entries each
@@ -39,11 +40,11 @@ spectral_from s r h c p =
     and_then (left_of (length s) k.side k.coder) (λ left p. value (spectral_of s r h x k.coder.taken p left) p))
 
 -- the answer of the pairs and what follows them, with the lines and the residual bits in the buffers lent; on a cause both are as lent
-abbrev pub spectral_given : SpectralRead → List ℤ → List ℕ → Read ℕ Spectral
-spectral_given (spectral_read.Value symbols number p) lines bits =
-    value (record { symbols = symbols; lines = lines; residual = record { number = number; bits = bits } }) p
-spectral_given (spectral_read.Cause k) lines bits = cause k
+abbrev pub spectral_given : Result SpectralRead Cause → List ℤ → List ℕ → Read ℕ Spectral
+spectral_given (Ok x) lines bits =
+    value (record { symbols = x.symbols; lines = lines; residual = record { number = x.residual_bits; bits = bits } }) x.next
+spectral_given (Err why) lines bits = cause (cause_number why)
 
-abbrev pub KeptOnCause : SpectralRead → List ℤ → List ℤ → List ℕ → List ℕ → Type 0
-KeptOnCause (spectral_read.Value symbols number p) lines lines' bits bits' = Unit {0}
-KeptOnCause (spectral_read.Cause k) lines lines' bits bits' = (lines' ≡ lines) × (bits' ≡ bits)
+abbrev pub KeptOnCause : Result SpectralRead Cause → List ℤ → List ℤ → List ℕ → List ℕ → Type 0
+KeptOnCause (Ok x) lines lines' bits bits' = Unit {0}
+KeptOnCause (Err why) lines lines' bits bits' = (lines' ≡ lines) × (bits' ≡ bits)

@@ -11,36 +11,36 @@ ghost use Rattle.frame_coder.specs.Sound.{Ready};
 ghost use Rattle.frame_side.specs.Sound.{HeadFor};
 ghost use Rattle.frame_spectral.specs.Sound.{Buffers, GoodSpectral};
 
-use frame_coder::Coder;
-use frame_pairs::{PairSetting, PairsRead};
-use frame_residual::Left;
+use frame_pair::Streams;
+use frame_pairs::PairSetting;
 use frame_settings::Setting;
 use frame_side::Head;
+use refusals::Cause;
 
-// The number of symbols taken, that of the residual bits and the side cursor, or a cause. Lines and residual bits stand in the lent
-// buffers.
+// The number of symbols taken, that of the residual bits, and the next side bit. Lines and residual bits stand in the lent buffers.
 #[derive(Clone, Copy)]
-pub enum SpectralRead {
-    Value(u16, u16, usize),
-    Cause(u8),
+pub struct SpectralRead {
+    pub symbols: u16,
+    pub residual_bits: u16,
+    pub next: usize,
 }
 
 // The pairs, the bits left, and after the last check what goes to the lent buffers.
 pub fn read_spectral(
     r: Setting,
     h: Head,
-    c: Coder,
-    p: usize,
+    from: Streams,
     frame: &[u8],
     spectrum: &mut [i32],
     residual: &mut [u8],
-) -> SpectralRead
+) -> Result<SpectralRead, Cause>
     requires known { Known r }
     requires head_for { HeadFor r h }
-    requires ready { Ready frame.now c 19 }
-    requires p_bound { p ≤ 74 }
+    requires ready { Ready frame.now from.coder 19 }
+    requires p_bound { from.side ≤ 74 }
     requires buffers { Buffers r spectrum.old residual.old }
-    ensures residual_after { spectral_given result spectrum.new residual.new ≡ spectral_from frame.now r h c p }
+    ensures residual_after { spectral_given result spectrum.new residual.new
+        ≡ spectral_from frame.now r h from.coder from.side }
     ensures kept_on_cause { KeptOnCause result spectrum.old spectrum.new residual.old residual.new }
     ensures good_spectral { GoodSpectral h.last_line result spectrum.new }
 {
@@ -48,25 +48,21 @@ pub fn read_spectral(
     let cum = coder_tables::spectrum();
     let mut x = [0i32; 400];
     let mut levels = [0u8; 200];
-    let lsb = widening::wide(h.lsb_mode);
-    let last = h.last_line as usize;
+    let lsb = usize::from(h.lsb_mode);
+    let last = usize::from(h.last_line);
     let o = PairSetting {
         lsb,
         offset: frame_settings::rate_offset(r.index, frame.len()),
         half: r.lines / 2,
     };
-    match frame_pairs::read_pairs(frame, &look, &cum, o, last / 2, c, p, &mut x, &mut levels) {
-        PairsRead::Cause(k) => SpectralRead::Cause(k),
-        PairsRead::Value(d, q) => match frame_residual::bits_left(frame.len(), q, d) {
-            Left::Cause(k) => SpectralRead::Cause(k),
-            Left::Value(left) => {
-                let count = frame_finish::finish(
-                    frame, lsb, last, &mut x, &levels, q, left, spectrum, residual,
-                );
-                let symbols = d.taken as u16;
-                let number = count as u16;
-                SpectralRead::Value(symbols, number, q)
-            }
-        },
-    }
+    let at = frame_pairs::read_pairs(frame, &look, &cum, o, last / 2, from, &mut x, &mut levels)?;
+    let left = frame_residual::bits_left(frame.len(), at.side, at.coder)?;
+    let count = frame_finish::finish(
+        frame, lsb, last, &mut x, &levels, at.side, left, spectrum, residual,
+    );
+    Ok(SpectralRead {
+        symbols: at.coder.taken as u16,
+        residual_bits: count as u16,
+        next: at.side,
+    })
 }
