@@ -1,6 +1,6 @@
 // The arithmetic stream (5.4.2.9): three bytes first, then symbols of rows of cumulative frequencies. Each function equals its definition
 // in specs/Symbol.antt, and no byte outside the frame is taken.
-// Inner: `frame_tns`, `frame_pair` and those over them stand over it, `writer_stream` over its definitions. It asks for a frame of 20 to
+// Inner: `frame_tns`, `frame_pair` and those over them stand over it, `writer_stream` over `Coder`. It asks for a frame of 20 to
 // 400 bytes, for a row that rises from 0 to 1,024, and for a cursor that it gave itself (`Sound`).
 #![tactic(auto)]
 
