@@ -1,4 +1,5 @@
-// The report of a day: what the walk counted (`tally`), in words that want no papers. It stands over nothing.
+// The report of a day: what the walk counted (`tally`), in words that want no papers. It stands over `day_sample`, for what
+// happens on the way.
 // Inner: `day_way` and `day` stand over it. It asks nothing.
 #![tactic(auto)]
 
@@ -22,21 +23,16 @@ pub fn report(out: &mut [u8], frames: usize, room: usize, t: Tally) -> usize
     kept(out, e, room, t)
 }
 
-// What is left of a when b is taken away; nothing where b is more.
-fn less(a: usize, b: usize) -> usize {
-    if b <= a { a - b } else { 0 }
-}
-
 // What the sample has, and what the headset makes of it.
 fn taken(out: &mut [u8], at: usize, frames: usize, t: Tally) -> usize
     ensures { result ≤ length out.old }
 {
-    let unreached = less(less(frames, t.left_out), t.sent);
+    let unreached = frames.saturating_sub(t.left_out).saturating_sub(t.sent);
     let numbers = [frames, t.left_out, t.sent, unreached, t.written, t.as_is];
     fill(
         out,
         at,
-        b"Frames of speech go through the air and into a record. The headset reads each frame of the sample
+        "Frames of speech go through the air and into a record. The headset reads each frame of the sample
 into its fields, writes it anew from them and protects it in a slot, semi-octets (half bytes) of
 the slot are changed on the way by a fixed rule, the receiver repairs the slot or refuses it,
 compares and reads the frame, and stores it in the record.
@@ -71,7 +67,7 @@ fn sent(out: &mut [u8], at: usize, t: Tally) -> usize
     fill(
         out,
         at,
-        b"
+        "
 Slots sent, by mode
   mode 2: 1 semi-octet of each word can be repaired
   mode 3: 2 semi-octets of each word can be repaired
@@ -103,7 +99,7 @@ fn accepted(out: &mut [u8], at: usize, t: Tally) -> usize
     fill(
         out,
         at,
-        b"
+        "
 Slots accepted
   clean
   repaired
@@ -127,7 +123,7 @@ fn read(out: &mut [u8], at: usize, t: Tally) -> usize
     fill(
         out,
         at,
-        b"
+        "
 Accepted frames read into their fields
   frames
   spectral lines, up to each frame's last one
@@ -152,7 +148,7 @@ fn refused(out: &mut [u8], at: usize, t: Tally) -> usize
     fill(
         out,
         at,
-        b"
+        "
 Refused, by number
   1: a setting is out of range
   2: a buffer has another length than it must have
@@ -173,7 +169,7 @@ fn kept(out: &mut [u8], at: usize, room: usize, t: Tally) -> usize
     fill(
         out,
         at,
-        b"
+        "
 The record
   bytes it has room for
   bytes used

@@ -1,7 +1,9 @@
 // What happened, counted. A tally goes by value from step to step, and each step answers it with its own counts added.
+use day_sample::air::Weather;
+use refusals::Refusal;
 use std::num::wrapping_add_usize;
 
-#[derive(Clone, Copy)]
+#[derive(Clone, Copy, Default)]
 pub struct Tally {
     pub left_out: usize,
     pub sent: usize,
@@ -45,37 +47,8 @@ impl Tally {
     // Nothing has happened; the record has `used` bytes.
     pub fn new(used: usize) -> Self {
         Self {
-            left_out: 0,
-            sent: 0,
-            mode_2: 0,
-            mode_3: 0,
-            mode_4: 0,
-            untouched: 0,
-            few: 0,
-            most: 0,
-            beyond: 0,
-            written: 0,
-            as_is: 0,
-            clean: 0,
-            repaired: 0,
-            semi_octets: 0,
-            bits: 0,
-            other_frames: 0,
-            other_requests: 0,
-            other_counts: 0,
-            other_bits: 0,
-            frames: 0,
-            lines: 0,
-            symbols: 0,
-            refused_1: 0,
-            refused_2: 0,
-            refused_3: 0,
-            refused_4: 0,
-            refused_5: 0,
-            refused_6: 0,
-            refused_7: 0,
-            stored: 0,
             used,
+            ..Self::default()
         }
     }
 
@@ -97,12 +70,12 @@ impl Tally {
     }
 
     // A slot was sent through this weather.
-    pub fn weather(mut self, weather: usize) -> Self {
+    pub fn weather(mut self, weather: Weather) -> Self {
         match weather {
-            0 => self.untouched = more(self.untouched, 1),
-            1 => self.few = more(self.few, 1),
-            2 => self.most = more(self.most, 1),
-            _ => self.beyond = more(self.beyond, 1),
+            Weather::Clear => self.untouched = more(self.untouched, 1),
+            Weather::Few => self.few = more(self.few, 1),
+            Weather::Most => self.most = more(self.most, 1),
+            Weather::Beyond => self.beyond = more(self.beyond, 1),
         }
         self
     }
@@ -161,15 +134,15 @@ impl Tally {
         self
     }
 
-    // Something was refused under a number of document 01.
-    pub fn refuse(mut self, number: u8) -> Self {
-        match number {
-            1 => self.refused_1 = more(self.refused_1, 1),
-            2 => self.refused_2 = more(self.refused_2, 1),
-            3 => self.refused_3 = more(self.refused_3, 1),
-            4 => self.refused_4 = more(self.refused_4, 1),
-            5 => self.refused_5 = more(self.refused_5, 1),
-            6 => self.refused_6 = more(self.refused_6, 1),
+    // Something was refused.
+    pub fn refuse(mut self, refusal: Refusal) -> Self {
+        match refusal {
+            Refusal::Setting => self.refused_1 = more(self.refused_1, 1),
+            Refusal::Length => self.refused_2 = more(self.refused_2, 1),
+            Refusal::Beyond => self.refused_3 = more(self.refused_3, 1),
+            Refusal::Foreign => self.refused_4 = more(self.refused_4, 1),
+            Refusal::BitError(_) => self.refused_5 = more(self.refused_5, 1),
+            Refusal::NoRoom => self.refused_6 = more(self.refused_6, 1),
             _ => self.refused_7 = more(self.refused_7, 1),
         }
         self

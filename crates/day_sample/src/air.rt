@@ -5,38 +5,37 @@ ghost use Rattle.day_sample.specs.Air.{Fitting};
 
 // A slot that carries exactly a frame's bytes: its size and its mode.
 #[derive(Clone, Copy)]
-pub enum Fit {
-    Slot(usize, u32),
-    Nothing,
+pub struct Fit {
+    pub size: usize,
+    pub mode: u32,
+}
+
+// What happens to a slot on the way: nothing, a few changes, as many in each word as can be repaired, or one more in each word.
+#[derive(Clone, Copy)]
+pub enum Weather {
+    Clear,
+    Few,
+    Most,
+    Beyond,
 }
 
 // The smallest slot that carries exactly n bytes, in the strongest of its modes that does.
-pub fn smallest(n: usize) -> Fit
+pub fn smallest(n: usize) -> Option<Fit>
     ensures { Fitting result }
 {
-    let mut size: usize = 40;
-    while size <= 400 {
-        let mode = strongest(size, n);
-        if mode != 0 {
-            return Fit::Slot(size, mode);
+    for size in 40..=400 {
+        if let Some(mode) = strongest(size, n) {
+            return Some(Fit { size, mode });
         }
-        size = size + 1;
     }
-    Fit::Nothing
+    None
 }
 
-// The strongest mode in which a slot of this size carries exactly n bytes; 0 where none does.
-fn strongest(size: usize, n: usize) -> u32 {
-    if slot_sizes::frame_size(size, 4) == n {
-        return 4;
-    }
-    if slot_sizes::frame_size(size, 3) == n {
-        return 3;
-    }
-    if slot_sizes::frame_size(size, 2) == n {
-        return 2;
-    }
-    0
+// The strongest mode in which a slot of this size carries exactly n bytes.
+fn strongest(size: usize, n: usize) -> Option<u32> {
+    (2..=4)
+        .rev()
+        .find(|mode| slot_sizes::frame_size(size, *mode) == n)
 }
 
 // The request that goes with a frame.
@@ -44,17 +43,14 @@ pub fn request_at(place: usize) -> u32 {
     (place % 4) as u32
 }
 
-// What happens on the way: 0 nothing, 1 a few changes, 2 as many in each word as can be repaired, 3 one more in each word.
-pub fn weather_at(place: usize) -> usize {
-    place / 4 % 4
-}
-
-// The words of a slot of this size.
-fn word_count(size: usize) -> usize
-    requires { size ≤ 400 }
-    ensures { result ≤ 54 }
-{
-    (2 * size + 14) / 15
+// What happens on the way.
+pub fn weather_at(place: usize) -> Weather {
+    match place / 4 % 4 {
+        0 => Weather::Clear,
+        1 => Weather::Few,
+        2 => Weather::Most,
+        _ => Weather::Beyond,
+    }
 }
 
 // As many changes as can be repaired if each word has m - 1 of them.
@@ -74,27 +70,24 @@ pub fn changes_at(place: usize, size: usize, mode: u32) -> usize
     requires { size ≤ 400 }
     ensures { result ≤ 216 }
 {
-    let words = word_count(size);
+    let words = slot_sizes::word_count(size);
     let most = repairable(words, mode);
-    let weather = weather_at(place);
-    match weather {
-        0 => 0,
-        1 => 1 + place % 5,
-        2 => most,
-        _ => most + words,
+    match weather_at(place) {
+        Weather::Clear => 0,
+        Weather::Few => 1 + place % 5,
+        Weather::Most => most,
+        Weather::Beyond => most + words,
     }
 }
 
 // Changes the first n semi-octets. Neighbours belong to different words, so that n = t x words are t in each word.
 pub fn change(slot: &mut [u8], n: usize, place: usize) {
-    let mut p: usize = 0;
-    while p < n {
+    for p in 0..n {
         let at = p / 2;
         if slot.len() <= at {
             return;
         }
         slot[at] = slot[at] ^ pattern(p, place);
-        p = p + 1;
     }
 }
 
@@ -103,19 +96,10 @@ pub fn bits_changed(n: usize, place: usize) -> usize
     requires { n ≤ 216 }
 {
     let mut bits: usize = 0;
-    let mut p: usize = 0;
-    while p < n {
-        bits = bits + ones(pattern(p, place));
-        p = p + 1;
+    for p in 0..n {
+        bits = bits + pattern(p, place).count_ones() as usize;
     }
     bits
-}
-
-// The bits of a byte that are one.
-fn ones(x: u8) -> usize
-    ensures { result ≤ 8 }
-{
-    u8::count_ones(x) as usize
 }
 
 // A byte with a semi-octet from 1 to 15 in the half that place p of the slot has in its byte.

@@ -3,7 +3,7 @@
 ghost use Rattle.std.specs.Prelude.{◌<◌, length};
 ghost use Rattle.day_sample.specs.Sample.{Follows};
 
-use widening::wide;
+use frame_settings::setting_of;
 
 // A frame of the sample: its rate and duration, and where it starts and ends.
 #[derive(Clone, Copy)]
@@ -14,20 +14,9 @@ pub struct Piece {
     pub end: usize,
 }
 
-// What stands at a place of the sample.
+// What is wrong with the sample.
 #[derive(Clone, Copy)]
-pub enum Next {
-    Frame(Piece),
-    CutShort,
-    UnknownRate,
-    UnknownDuration,
-    BadLength,
-}
-
-// How many frames the sample has, or what is wrong with it.
-#[derive(Clone, Copy)]
-pub enum Surveyed {
-    Frames(usize),
+pub enum SampleError {
     CutShort,
     UnknownRate,
     UnknownDuration,
@@ -35,35 +24,29 @@ pub enum Surveyed {
 }
 
 // The frame at a place.
-pub fn frame_at(bytes: &[u8], at: usize) -> Next
+pub fn frame_at(bytes: &[u8], at: usize) -> Result<Piece, SampleError>
     ensures { Follows result at (length bytes.now) }
 {
-    if bytes.len() <= at {
-        return Next::CutShort;
+    if bytes.len() <= at || bytes.len() - at < 4 {
+        return Err(SampleError::CutShort);
     }
-    if bytes.len() - at < 4 {
-        return Next::CutShort;
+    let khz = u32::from(bytes[at]);
+    if setting_of(khz, 40).is_none() {
+        return Err(SampleError::UnknownRate);
     }
-    let khz = wide(bytes[at]) as u32;
-    if frame_settings::line_count(khz, 40) == 0 {
-        return Next::UnknownRate;
+    let duration = u32::from(bytes[at + 1]);
+    if setting_of(khz, duration).is_none() {
+        return Err(SampleError::UnknownDuration);
     }
-    let duration = wide(bytes[at + 1]) as u32;
-    if frame_settings::line_count(khz, duration) == 0 {
-        return Next::UnknownDuration;
-    }
-    let n = 256 * wide(bytes[at + 2]) + wide(bytes[at + 3]);
-    if n < 20 {
-        return Next::BadLength;
-    }
-    if 400 < n {
-        return Next::BadLength;
+    let n = usize::from(u16::from_be_bytes([bytes[at + 2], bytes[at + 3]]));
+    if n < 20 || 400 < n {
+        return Err(SampleError::BadLength);
     }
     let start = at + 4;
     if bytes.len() - start < n {
-        return Next::CutShort;
+        return Err(SampleError::CutShort);
     }
-    Next::Frame(Piece {
+    Ok(Piece {
         khz,
         duration,
         start,
@@ -71,27 +54,14 @@ pub fn frame_at(bytes: &[u8], at: usize) -> Next
     })
 }
 
-// Goes through the whole sample before anything is sent.
-pub fn survey(bytes: &[u8]) -> Surveyed {
+// Goes through the whole sample before anything is sent, and answers how many frames it has.
+pub fn survey(bytes: &[u8]) -> Result<usize, SampleError> {
     let mut at: usize = 0;
     let mut count: usize = 0;
     while at < bytes.len() {
-        let found = frame_at(bytes, at);
-        let Next::Frame(piece) = found else {
-            return wrong(found);
-        };
+        let piece = frame_at(bytes, at)?;
         at = piece.end;
         count = count + 1;
     }
-    Surveyed::Frames(count)
-}
-
-fn wrong(found: Next) -> Surveyed {
-    match found {
-        Next::Frame(_) => Surveyed::Frames(0),
-        Next::CutShort => Surveyed::CutShort,
-        Next::UnknownRate => Surveyed::UnknownRate,
-        Next::UnknownDuration => Surveyed::UnknownDuration,
-        Next::BadLength => Surveyed::BadLength,
-    }
+    Ok(count)
 }
