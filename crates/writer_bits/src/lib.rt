@@ -8,7 +8,6 @@ ghost use Rattle.std.specs.Prelude.{◌≡◌, ◌+◌, ◌^◌, ◌≤◌, ◌<
 ghost use Rattle.frame_bits.specs.Fields.{value_bits};
 ghost use Rattle.writer_steps.specs.Cursors.{Open, Puts, Closes, Binary};
 
-use widening::wide;
 use writer_steps::Cursor;
 
 // A value of w bits, lowest first.
@@ -24,13 +23,9 @@ pub fn put(v: usize, w: usize, c: Cursor, side: &mut [u8]) -> Cursor
     let at = c.at;
     let old = c.held;
     let mut held = old + (v << (at % 8));
-    let mut n = at % 8 + w;
-    let mut j = at / 8;
-    while 8 <= n {
+    for j in at / 8..(at + w) / 8 {
         side[j] = (held % 256) as u8;
         held = held / 256;
-        n = n - 8;
-        j = j + 1;
     }
     Cursor { at: at + w, held }
 }
@@ -46,10 +41,8 @@ pub fn put_bits(bits: &[u8], n: usize, first: Cursor, side: &mut [u8]) -> Cursor
     ensures at_value { result.at ≡ first.at + n }
 {
     let mut c = first;
-    let mut i = 0;
-    while i < n {
-        c = put(wide(bits[i]), 1, c, side);
-        i = i + 1;
+    for bit in &bits[..n] {
+        c = put(usize::from(*bit), 1, c, side);
     }
     c
 }

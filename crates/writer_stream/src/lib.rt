@@ -8,7 +8,7 @@ ghost use Rattle.std.specs.Prelude.{◌≡◌, ◌+◌, ◌*◌, ◌^◌, ◌≤
 ghost use Rattle.writer_laws.specs.Stream.{send_start, widened, coded, front_of, whole_of};
 ghost use Rattle.writer_steps.specs.Flow.{Part, Streams, Flows, OneMore, Carried};
 
-use frame_coder::{Coder, entry};
+use frame_coder::Coder;
 
 // The stream before its first symbol; nothing is put out.
 pub fn start(front: &[u8]) -> Coder
@@ -78,8 +78,8 @@ pub fn encode(cum: &[u16], row: usize, v: usize, c: Coder, front: &mut [u8]) -> 
     let range = c.range;
     let base = c.low;
     let t = range / 1024;
-    let below = t * entry(cum[row + v]);
-    let above = t * entry(cum[row + (v + 1)]);
+    let below = t * usize::from(cum[row + v]);
+    let above = t * usize::from(cum[row + (v + 1)]);
     let at = c.at;
     let mut low = base + below;
     if 16777216 <= low {

@@ -13,15 +13,15 @@ unfolding coded
 returns-clause-result_after c =
     let a = c.args in
     let h = c.requires in
-    let x = c.entry.result in
-    let y = c.entry-2.result in
+    let x = c.from.result in
+    let y = c.from-2.result in
     let t : ℕ = a.c.range / 1024 in
     let p : Placing a.cum.now a.row a.v a.front.now a.c c.if-low-ge16777216.front
     (record { low = c.if-low-ge16777216.low; range = t * y - t * x; at = a.c.at; taken = a.c.taken + 1 }) =
     elim c.if-low-ge16777216.branch [
-      | then-low-ge16777216 w ↦ placing-carried _ _ x y h.part h.flows c.entry.ensures.value c.entry-2.ensures.value
+      | then-low-ge16777216 w ↦ placing-carried _ _ x y h.part h.flows c.from.ensures c.from-2.ensures
           w.if-low-ge16777216.true w.low-is (subst (Carried (a.c.at - 3) a.front.now) (sym w.front-is) w.carry.ensures)
-      | else-low-ge16777216 w ↦ placing-plain _ _ x y h.part h.flows c.entry.ensures.value c.entry-2.ensures.value
+      | else-low-ge16777216 w ↦ placing-plain _ _ x y h.part h.flows c.from.ensures c.from-2.ensures
           w.if-low-ge16777216.false w.low-is w.front-is
     ] in
     c.widen.ensures.result_after ∙ ap (widened 2) p.whole
