@@ -1,13 +1,7 @@
 -- `writer_stream::carry` meets its contract. The byte to grow counts as much as is still to be added. Assumes nothing.
 use native.Mathlib.Omega.{arith}
-use Rattle.writer_stream.proofs.Carrying.{some_bytes, pending-first, pending-more, pending_next, pending-last}
+use Rattle.writer_stream.proofs.Carrying.{pending-more, pending_next, pending-last}
 use Rattle.writer_stream.proofs.carry.Goals as goal
-
-pub overflow_sub-j : goal.overflow_sub-j
-overflow_sub-j c = some_bytes c.args.front.now c.args.n c.requires.n_bound
-
-pub loop-front-init : goal.loop-front-init
-loop-front-init c = pending-first c.args.n c.args.front.now c.requires.n_bound
 
 pub overflow_sub-j-in-loop-front : goal.overflow_sub-j-in-loop-front
 overflow_sub-j-in-loop-front c =

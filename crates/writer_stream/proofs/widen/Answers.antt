@@ -3,7 +3,7 @@
 use mathlib.Core.Path.{◌≡◌, refl, subst}
 use Prim.Native.Nat.{◌+◌, ◌-◌}
 use native.Mathlib.Omega.{arith}
-use Rattle.writer_stream.proofs.Shifting.{Widening, widening-first, widening-more, widening-room, widening-next, widening-last}
+use Rattle.writer_stream.proofs.Shifting.{Widening, widening-first, widening-next, widening-last}
 use Rattle.writer_stream.proofs.widen.Goals as goal
 
 pub loop-range-init : goal.loop-range-init
@@ -11,22 +11,6 @@ loop-range-init c =
     let a = c.args in
     let z : 2 ≡ 2 - (a.c.at - a.c.at) = omega arith in
     subst (Widening a.front.now a.c a.front.now a.c) z (widening-first a.front.now a.c c.requires.streams c.requires.at_bound)
-
-pub overflow_cast-front : goal.overflow_cast-front
-overflow_cast-front c = let l = c.loop-range.invariant.streams.low in record { fits = omega arith }
-
-pub overflow_sub-front : goal.overflow_sub-front
-overflow_sub-front c = c.loop-range.invariant.streams.at
-
--- the byte to put out has its place
-pub bounds-front-at : goal.bounds-front-at
-bounds-front-at c = widening-room c.loop-range.invariant c.loop-range-test.true
-
-pub loop-range-smaller : goal.loop-range-smaller
-loop-range-smaller c =
-    let w = c.loop-range.invariant.count in
-    let p = widening-more c.loop-range.invariant c.loop-range-test.true in
-    omega arith
 
 pub loop-range-preserved : goal.loop-range-preserved
 loop-range-preserved c =
