@@ -1,26 +1,11 @@
 -- `writer_fits::side_fits` meets its contract. Assumes nothing.
-use native.Mathlib.Omega.{arith}
-use Rattle.writer_laws.proofs.SideParts.{side-parts}
-use Rattle.writer_fits.proofs.FieldsFit.{side-none}
+use Rattle.std.proofs.Common.{arith}
+use Rattle.std.proofs.lemmas.Grind.{common_steps}
+use Rattle.writer_fits.proofs.FieldsFit.{parts_fit}
 use Rattle.writer_fits.proofs.side_fits.Goals as goal
 
-pub returns-then-pitch-gt1 : goal.returns-then-pitch-gt1
-returns-then-pitch-gt1 c =
-    let a = c.args in
-    side-none a.r a.v (omega arith)
+pub returns-then-last-last_pair : goal.returns-then-last-last_pair
+returns-then-last-last_pair c = rw (parts_fit c.args.r c.args.v) (grind (arith, common_steps))
 
-pub returns : goal.returns
-returns c =
-    let a = c.args in
-    rw (
-      side-parts a.r a.v,
-      c.last_pair.ensures,
-      c.wide2-last.ensures,
-      c.tail_fits.ensures,
-      c.shape_fits.ensures,
-      c.head_fits.ensures,
-      c.flags_fit-flags.ensures,
-      c.wide.ensures.value,
-      c.tns_filters.ensures.value,
-      c.wide-pitch.ensures.value,
-    )
+pub returns-else-last-last_pair : goal.returns-else-last-last_pair
+returns-else-last-last_pair c = rw (parts_fit c.args.r c.args.v) (grind (arith, common_steps))
