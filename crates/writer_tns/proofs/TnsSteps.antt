@@ -8,11 +8,7 @@ use Rattle.frame_coder.specs.declared.Coder.{Coder}
 use Rattle.writer_laws.specs.Stream.{coded, coded_all}
 use Rattle.writer_laws.specs.Tns.{coefficient_items, filter_items}
 
--- ---- the coefficients from k on: all of them, none left, one more
-
-pub coefficients-all : (rows l : List ℕ) (n : ℕ) (c : Coder)
-    → coded_all (coefficient_items rows l (n - 0) 0) c ≡ coded_all (coefficient_items rows l n 0) c
-coefficients-all rows l n c = let p : n - 0 ≡ n = omega arith in rw p
+-- ---- the coefficients from k on: none left, one more
 
 pub coefficients-done : (rows l : List ℕ) (n k : ℕ) (c : Coder) → n ≤ k → coded_all (coefficient_items rows l (n - k) k) c ≡ c
 unfolding coefficient_items coded_all

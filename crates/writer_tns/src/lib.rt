@@ -12,7 +12,6 @@ ghost use Rattle.writer_laws.specs.Tns.{coefficient_items, filter_items};
 ghost use Rattle.writer_steps.specs.Flow.{Sendable, Within};
 
 use frame_coder::Coder;
-use widening::wide;
 use writer_stream::encode;
 
 // The first n coefficients, each of its own row.
@@ -30,10 +29,8 @@ fn coefficients(rows: &[u16], l: &[u8], n: usize, first: Coder, front: &mut [u8]
     ensures within { Within n first result }
 {
     let mut c = first;
-    let mut k = 0;
-    while k < n {
-        c = encode(rows, k * 18, wide(l[k]), c, front);
-        k = k + 1;
+    for (k, v) in l[..n].iter().enumerate() {
+        c = encode(rows, k * 18, usize::from(*v), c, front);
     }
     c
 }

@@ -7,10 +7,10 @@ use Rattle.writer_steps.specs.Flow.{Flows}
 use Rattle.writer_tns.proofs.coefficients.Given as goal
 
 abbrev pub invariant-loop-k : goal.invariant-loop-k
-invariant-loop-k l =
-    (l.k ≤ l.n) × Flows l.front l.c × (l.c.at ≤ l.initial.c.at + 2 * l.k) × (l.c.taken ≡ l.initial.c.taken + l.k)
-    × (coded_all (coefficient_items l.rows l.l (l.n - l.k) l.k) (whole_of l.front l.c)
-    ≡ coded_all (coefficient_items l.rows l.l l.n 0) (whole_of l.initial.front l.initial.c))
-
-abbrev pub decreases-loop-k : goal.decreases-loop-k
-decreases-loop-k l = l.n - l.k
+invariant-loop-k l = record {
+  flows : Flows l.front l.c;
+  at : l.c.at ≤ l.initial.c.at + 2 * l.k;
+  taken : l.c.taken ≡ l.initial.c.taken + l.k;
+  sent : coded_all (coefficient_items l.rows l.l (l.n - l.k) l.k) (whole_of l.front l.c)
+      ≡ coded_all (coefficient_items l.rows l.l l.n 0) (whole_of l.initial.front l.initial.c);
+}
