@@ -52,13 +52,10 @@ same-puts x y n m s₀ s₁ c₀ c₁ e d p l k =
     let a : value_bits x n ≡ value_bits y m = rw (e, d) in
     rw (← a) (p l k)
 
-pub same-below : (x y n m : ℕ) → x ≡ y → n ≡ m → y < 2 ^ m → x < 2 ^ n
-same-below x y n m e d h = rw (e, d) h
-
 -- ---- the four parts of the side information: each value within its width, and each part's puts in a row
-pub head-fit : (r : Setting) (h : Head) → list_fits (head_fields r) (head_values h) ≡ true
+pub head_fit : (r : Setting) (h : Head) → list_fits (head_fields r) (head_values h) ≡ true
     → (h.bandwidth < 2 ^ r.bandwidth) × (last_pair h.last_line < 2 ^ r.pair) × (h.lsb_mode < 2) × (h.gain < 256)
-head-fit r h e =
+head_fit r h e =
     let a = first_fits _ _ _ _ _ e in
     let b = first_fits _ _ _ _ _ a.1 in
     let c = first_fits _ _ _ _ _ b.1 in
@@ -76,9 +73,9 @@ head_puts r h x₀ x₁ x₂ x₃ s₀ s₁ s₂ s₃ s₄ c₀ c₁ c₂ c₃ c
     (first-puts _ _ _ _ _ s₂ s₃ s₄ c₂ c₃ c₄ (same-puts _ _ _ _ s₂ s₃ c₂ c₃ e₂ refl p₂)
     (last-puts _ _ _ _ s₃ s₄ c₃ c₄ (same-puts _ _ _ _ s₃ s₄ c₃ c₄ e₃ refl p₃))))
 
-pub flags-fit : (m b : ℕ) (f : Flags) → list_fits (flags_fields m b) (flags_values f) ≡ true
+pub flags_fit : (m b : ℕ) (f : Flags) → list_fits (flags_fields m b) (flags_values f) ≡ true
     → (f.tns_0 < 2) × (f.tns_1 < 2 ^ second_flag m b) × (f.pitch_present < 2)
-flags-fit m b f e =
+flags_fit m b f e =
     let x = first_fits _ _ _ _ _ e in
     let y = first_fits _ _ _ _ _ x.1 in
     let z = first_fits _ _ _ _ _ y.1 in
@@ -93,16 +90,17 @@ flags-puts m b f n x₀ x₁ x₂ s₀ s₁ s₂ s₃ c₀ c₁ c₂ c₃ d e₀
     (first-puts _ _ _ _ _ s₁ s₂ s₃ c₁ c₂ c₃ (same-puts _ _ _ _ s₁ s₂ c₁ c₂ e₁ d p₁)
     (last-puts _ _ _ _ s₂ s₃ c₂ c₃ (same-puts _ _ _ _ s₂ s₃ c₂ c₃ e₂ refl p₂)))
 
-pub shape-fit : (q : Shape) → list_fits shape_fields (shape_values q) ≡ true
-    → (q.low < 32) × (q.high < 32) × (q.mode < 2) × (q.gain < 2 ^ (1 + q.mode)) × (q.sign < 2) × (q.joint < 2 ^ (25 - q.mode))
-shape-fit q e =
+-- its first fact is the premise, by which `grind` finds it
+pub shape_fit : (q : Shape) → list_fits shape_fields (shape_values q) ≡ true
+    → (list_fits shape_fields (shape_values q) ≡ true) × (q.low < 32) × (q.high < 32) × (q.mode < 2) × (q.gain < 2 ^ (1 + q.mode)) × (q.sign < 2) × (q.joint < 2 ^ (25 - q.mode))
+shape_fit q e =
     let a = first_fits _ _ _ _ _ e in
     let b = first_fits _ _ _ _ _ a.1 in
     let c = first_fits _ _ _ _ _ b.1 in
     let d = first_fits _ _ _ _ _ c.1 in
     let f = first_fits _ _ _ _ _ d.1 in
     let g = first_fits _ _ _ _ _ f.1 in
-    (a.0, b.0, c.0, d.0, f.0, g.0)
+    (e, a.0, b.0, c.0, d.0, f.0, g.0)
 
 pub shape-puts :
     (q : Shape) (x₀ x₁ m x₃ x₄ x₅ : ℕ) (s₀ s₁ s₂ s₃ s₄ s₅ s₆ : List ℕ) (c₀ c₁ c₂ c₃ c₄ c₅ c₆ : Cursor) → x₀ ≡ q.low → x₁ ≡ q.high
@@ -118,9 +116,9 @@ shape-puts q x₀ x₁ m x₃ x₄ x₅ s₀ s₁ s₂ s₃ s₄ s₅ s₆ c₀ 
     (first-puts _ _ _ _ _ s₄ s₅ s₆ c₄ c₅ c₆ (same-puts _ _ _ _ s₄ s₅ c₄ c₅ e₄ refl p₄)
     (last-puts _ _ _ _ s₅ s₆ c₅ c₆ (same-puts _ _ _ _ s₅ s₆ c₅ c₆ e₅ (ap (λ (y : ℕ). 25 - y) e₂) p₅))))))
 
-pub tail-fit : (pitch : ℕ) (t : Tail) → list_fits (tail_fields pitch) (tail_values t) ≡ true
+pub tail_fit : (pitch : ℕ) (t : Tail) → list_fits (tail_fields pitch) (tail_values t) ≡ true
     → (t.filter_flag < 2 ^ pitch) × (t.pitch_index < 2 ^ (9 * pitch)) × (t.noise_level < 8)
-tail-fit pitch t e =
+tail_fit pitch t e =
     let x = first_fits _ _ _ _ _ e in
     let y = first_fits _ _ _ _ _ x.1 in
     let z = first_fits _ _ _ _ _ y.1 in
@@ -145,8 +143,8 @@ module _ (r : Setting) (v : Side) where
       × (list_fits shape_fields (shape_values v.shape) ≡ true)
       × (list_fits (tail_fields v.flags.pitch_present) (tail_values v.tail) ≡ true)
 
-  pub side-fits : list_fits (side_fields r) (side_values v) ≡ true → parts_fit
-  side-fits h =
+  pub side_parts : list_fits (side_fields r) (side_values v) ≡ true → parts_fit
+  side_parts h =
       let p = both_hold _ _ (sym (side-parts r v) ∙ h) in
       let q = both_hold _ _ p.1 in
       let o = both_hold _ _ q.1 in

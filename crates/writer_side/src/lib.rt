@@ -14,10 +14,10 @@ ghost use Rattle.writer_steps.specs.Cursors.{Open, Kept, Puts};
 
 use frame_settings::{Setting, tns_filters};
 use frame_side::{Flags, Head, Shape, Side, Tail, last_pair, second_flag};
-use widening::{wide, wide2, wide4};
 use writer_bits::put;
 use writer_steps::Cursor;
 
+#[tactic(auto, using(crate::proofs::Fields::head_fit))]
 fn put_head(r: Setting, h: Head, c: Cursor, side: &mut [u8]) -> Cursor
     requires known { Known r }
     requires h_value { list_fits (head_fields r) (head_values h) ≡ true }
@@ -27,12 +27,13 @@ fn put_head(r: Setting, h: Head, c: Cursor, side: &mut [u8]) -> Cursor
     ensures fact_2 { Open side.new result }
     ensures at_bound_2 { result.at ≤ c.at + 20 }
 {
-    let c1 = put(wide(h.bandwidth), r.bandwidth, c, side);
-    let c2 = put(last_pair(wide2(h.last_line)), r.pair, c1, side);
-    let c3 = put(wide(h.lsb_mode), 1, c2, side);
-    put(wide(h.gain), 8, c3, side)
+    let c1 = put(usize::from(h.bandwidth), r.bandwidth, c, side);
+    let c2 = put(last_pair(usize::from(h.last_line)), r.pair, c1, side);
+    let c3 = put(usize::from(h.lsb_mode), 1, c2, side);
+    put(usize::from(h.gain), 8, c3, side)
 }
 
+#[tactic(auto, using(crate::proofs::Fields::flags_fit))]
 fn put_flags(filters: usize, bandwidth: usize, f: Flags, c: Cursor, side: &mut [u8]) -> Cursor
     requires le_filters { 1 ≤ filters }
     requires filters_bound { filters ≤ 2 }
@@ -43,11 +44,13 @@ fn put_flags(filters: usize, bandwidth: usize, f: Flags, c: Cursor, side: &mut [
     ensures fact_2 { Open side.new result }
     ensures at_bound_2 { result.at ≤ c.at + 3 }
 {
-    let c1 = put(wide(f.tns_0), 1, c, side);
-    let c2 = put(wide(f.tns_1), second_flag(filters, bandwidth), c1, side);
-    put(wide(f.pitch_present), 1, c2, side)
+    let c1 = put(usize::from(f.tns_0), 1, c, side);
+    let second = second_flag(filters, bandwidth);
+    let c2 = put(usize::from(f.tns_1), second, c1, side);
+    put(usize::from(f.pitch_present), 1, c2, side)
 }
 
+#[tactic(auto, using(crate::proofs::Fields::shape_fit))]
 fn put_shape(q: Shape, c: Cursor, side: &mut [u8]) -> Cursor
     requires q_value { list_fits shape_fields (shape_values q) ≡ true }
     requires fact { Open side.old c }
@@ -56,15 +59,16 @@ fn put_shape(q: Shape, c: Cursor, side: &mut [u8]) -> Cursor
     ensures fact_2 { Open side.new result }
     ensures at_bound_2 { result.at ≤ c.at + 38 }
 {
-    let m = wide(q.mode);
-    let c1 = put(wide(q.low), 5, c, side);
-    let c2 = put(wide(q.high), 5, c1, side);
+    let m = usize::from(q.mode);
+    let c1 = put(usize::from(q.low), 5, c, side);
+    let c2 = put(usize::from(q.high), 5, c1, side);
     let c3 = put(m, 1, c2, side);
-    let c4 = put(wide(q.gain), 1 + m, c3, side);
-    let c5 = put(wide(q.sign), 1, c4, side);
-    put(wide4(q.joint), 25 - m, c5, side)
+    let c4 = put(usize::from(q.gain), 1 + m, c3, side);
+    let c5 = put(usize::from(q.sign), 1, c4, side);
+    put(q.joint as usize, 25 - m, c5, side)
 }
 
+#[tactic(auto, using(crate::proofs::Fields::tail_fit))]
 fn put_tail(pitch: usize, t: Tail, c: Cursor, side: &mut [u8]) -> Cursor
     requires pitch_bound { pitch < 2 }
     requires t_value { list_fits (tail_fields pitch) (tail_values t) ≡ true }
@@ -74,9 +78,9 @@ fn put_tail(pitch: usize, t: Tail, c: Cursor, side: &mut [u8]) -> Cursor
     ensures fact_2 { Open side.new result }
     ensures at_bound_2 { result.at ≤ c.at + 13 }
 {
-    let c1 = put(wide(t.filter_flag), pitch, c, side);
-    let c2 = put(wide2(t.pitch_index), 9 * pitch, c1, side);
-    put(wide(t.noise_level), 3, c2, side)
+    let c1 = put(usize::from(t.filter_flag), pitch, c, side);
+    let c2 = put(usize::from(t.pitch_index), 9 * pitch, c1, side);
+    put(usize::from(t.noise_level), 3, c2, side)
 }
 
 // The side information, into room of zeros.
@@ -92,7 +96,13 @@ pub fn put_side(r: Setting, v: Side, side: &mut [u8]) -> Cursor
     let h = v.head;
     let none = Cursor { at: 0, held: 0 };
     let c1 = put_head(r, h, none, side);
-    let c2 = put_flags(tns_filters(r.duration), wide(h.bandwidth), f, c1, side);
+    let c2 = put_flags(
+        tns_filters(r.duration),
+        usize::from(h.bandwidth),
+        f,
+        c1,
+        side,
+    );
     let c3 = put_shape(v.shape, c2, side);
-    put_tail(wide(f.pitch_present), v.tail, c3, side)
+    put_tail(usize::from(f.pitch_present), v.tail, c3, side)
 }
