@@ -110,6 +110,10 @@ pub record Last (front : List ℕ) (c : Coder) (e v : ℕ) : Type 0 where
   pub value : v ≡ up_of c.low (2 ^ e) * 2 ^ e
   pub near : v < c.low + 2 ^ e
 
+pub last_of : {front : List ℕ} {c : Coder} {e v : ℕ} → Flows front c → c.at ≤ 500 → 24 - e ≡ end_bits c.low c.range → 15 ≤ e → e ≤ 23
+    → v ≡ up_of c.low (2 ^ e) * 2 ^ e → v < c.low + 2 ^ e → Last front c e v
+last_of f r b l m v n = record { flows = f; room = r; bits = b; least = l; most = m; value = v; near = n }
+
 -- where v has a 25th bit, one more in the bytes before it does not run over
 pub carry-fits : {front : List ℕ} {c : Coder} {e v : ℕ} → Last front c e v → 16777216 ≤ v
     → front_of front (c.at - 3) + 1 < 2 ^ (8 * (c.at - 3))
@@ -211,15 +215,15 @@ pub record Before (front : List ℕ) (c : Coder) (e v : ℕ) (front' : List ℕ)
   pub fresh : (i : ℕ) → c.at - 3 ≤ i → get_or front' i 0 ≡ 0
 
 -- no carry
-pub before_same : {front front' : List ℕ} {c : Coder} {e v v' : ℕ} → Last front c e v → v < 16777216 → front' ≡ front → v' ≡ v
-    → Before front c e v front' v'
-before_same {front} {front'} {c} {e} {v} l h p q =
-    rw (p, q) (record { last = l; room = l.flows.room; short = h; number = refl; fresh = l.flows.fresh })
+pub before_same : {front front' : List ℕ} {c : Coder} {e v : ℕ} → Last front c e v → v < 16777216 → front' ≡ front
+    → Before front c e v front' (v % 16777216)
+before_same {front} {front'} {c} {e} {v} l h p =
+    rw p (record { last = l; room = l.flows.room; short = omega arith; number = omega arith; fresh = l.flows.fresh })
 
 -- one carry
-pub before-carried : {front front' : List ℕ} {c : Coder} {e v v' : ℕ} → Last front c e v → 16777216 ≤ v → Carried (c.at - 3) front front'
-    → v' ≡ v - 16777216 → Before front c e v front' v'
-before-carried {front} {front'} {c} {e} {v} {v'} l h d q =
+pub before-carried : {front front' : List ℕ} {c : Coder} {e v : ℕ} → Last front c e v → 16777216 ≤ v → Carried (c.at - 3) front front'
+    → Before front c e v front' (v % 16777216)
+before-carried {front} {front'} {c} {e} {v} l h d =
     let n = d.number in
     let near = l.near in
     let low = l.flows.low in
@@ -233,18 +237,17 @@ before-carried {front} {front'} {c} {e} {v} {v'} l h d q =
     }
 
 -- the first 512 bytes are the code, and zeros
-pub end-done : {front front' : List ℕ} {c : Coder} {e v v' : ℕ} → Before front c e v front' v'
-    → front_of (ended front' (c.at - 3) (c.at - 2) v') 512 ≡ code_of (whole_of front c) * 2 ^ room_of 512 (whole_of front c)
-end-done {front} {front'} {c} {e} {v} {v'} b =
+pub end-done : {front front' : List ℕ} {c : Coder} {e v : ℕ} → Before front c e v front' (v % 16777216)
+    → front_of (set (set front' (c.at - 3) (v / 65536 % 256)) (c.at - 2) (v / 256 % 256)) 512
+    ≡ code_of (whole_of front c) * 2 ^ room_of 512 (whole_of front c)
+end-done {front} {front'} {c} {e} {v} b =
     let l = b.last in
     let at = l.flows.at in
     let r = l.room in
     let n = b.number in
     let z = low_byte l in
-    ended-front front' (c.at - 3) (c.at - 2) v' b.room (omega arith) (omega arith) b.fresh (omega arith)
-    ∙ ap (λ (x : ℕ). x * 2 ^ (8 * (509 - (c.at - 3)))) n ∙ sym (code-whole l)
-
-pub end-room : {front front' : List ℕ} {c : Coder} {e v v' : ℕ} → Before front c e v front' v'
-    → length (ended front' (c.at - 3) (c.at - 2) v') ≡ 512
-end-room {front} {front'} {c} {e} {v} {v'} b =
-    length-set (set front' (c.at - 3) (v' / 65536)) (c.at - 2) (v' / 256 % 256) ∙ length-set front' (c.at - 3) (v' / 65536) ∙ b.room
+    let p : v / 65536 % 256 ≡ v % 16777216 / 65536 = omega arith in
+    let q : v / 256 % 256 ≡ v % 16777216 / 256 % 256 = omega arith in
+    rw (p, q)
+    (ended-front front' (c.at - 3) (c.at - 2) (v % 16777216) b.room (omega arith) (omega arith) b.fresh (omega arith)
+    ∙ ap (λ (x : ℕ). x * 2 ^ (8 * (509 - (c.at - 3)))) n ∙ sym (code-whole l))

@@ -34,9 +34,10 @@ fn exponent(low: usize, range: usize) -> usize
 {
     let e = log2(range);
     if round_up(low, e) + (1 << e) <= low + range {
-        return e;
+        e
+    } else {
+        e - 1
     }
-    e - 1
 }
 
 // The stream's last bits: its first 512 bytes are its code, and zeros.
@@ -49,12 +50,11 @@ pub fn end(c: Coder, front: &mut [u8])
 {
     let low = c.low;
     let at = c.at;
-    let mut v = round_up(low, exponent(low, c.range));
+    let v = round_up(low, exponent(low, c.range));
     if 16777216 <= v {
-        v = v - 16777216;
         carry(front, at - 3);
     }
-    front[at - 3] = (v / 65536) as u8;
+    front[at - 3] = (v / 65536 % 256) as u8;
     front[at - 2] = (v / 256 % 256) as u8;
 }
 
@@ -67,9 +67,7 @@ pub fn join(front: &[u8], side: &[u8], frame: &mut [u8])
     ensures { frame.new ≡ joined_of front.now side.now (length frame.old) }
 {
     let n = frame.len();
-    let mut i = 0;
-    while i < n {
-        frame[i] = front[i] + side[n - 1 - i];
-        i = i + 1;
+    for (i, b) in frame.iter_mut().enumerate() {
+        *b = front[i] + side[n - 1 - i];
     }
 }

@@ -1,11 +1,8 @@
 -- `writer_ending::join` meets its contract. The invariant: the first i bytes are joined. Assumes nothing.
-use Prim.Native.Nat.{◌+◌, ◌-◌, ◌≤◌}
+use Prim.Native.Nat.{◌+◌, ◌-◌}
 use lib.ListN.{get_or}
 use Rattle.laws.proofs.Fill.{Filled}
 use Rattle.writer_ending.proofs.join.Given as goal
 
 abbrev pub invariant-loop-i : goal.invariant-loop-i
-invariant-loop-i l = (l.i ≤ l.n) × Filled (λ k. get_or l.front k 0 + get_or l.side (l.n - 1 - k) 0) l.n l.i l.frame
-
-abbrev pub decreases-loop-i : goal.decreases-loop-i
-decreases-loop-i l = l.n - l.i
+invariant-loop-i l = Filled (λ k. get_or l.front k 0 + get_or l.side (l.n - 1 - k) 0) l.n l.i l.frame
