@@ -13,11 +13,7 @@ use Rattle.laws.proofs.Every.{every, at}
 use Rattle.laws.proofs.Tab.{total-next, total-none}
 use Rattle.code_word_laws.specs.Word.{distance}
 use Rattle.slot_laws.specs.Sizes.{InRange, words, word_length, data_length, conceal_words, block, conceal, hash1, hash2, frame_size}
-use Rattle.slot_laws.proofs.Sizes.{overhead, conceal-few, conceal-fits}
-
-pub word-count-is : (size r : ℕ) → size ≤ 400 → r ≡ (2 * size + 14) / 15 → (r ≡ words size) × (r ≤ 54)
-unfolding words
-word-count-is size r h e = (e, omega arith)
+use Rattle.slot_laws.proofs.Sizes.{overhead, conceal-fits}
 
 -- how a word's length compares with a number, without the division
 length_from : (size count i k : ℕ) → count ≡ words size → 0 < count → k * count ≤ 2 * size - i - 1 → k + 1 ≤ word_length size i
@@ -96,9 +92,6 @@ conceal-four size mode h k e =
 pub conceal-other : (size mode : ℕ) → (mode ≡ 3 → ⊥) → (mode ≡ 4 → ⊥) → conceal_words size mode ≡ 0
 unfolding conceal_words
 conceal-other size mode n m = rw (ne_eqb mode 3 n, ne_eqb mode 4 m) (cond_same (leb 80 size) 0)
-
-pub conceal-is : (size mode r : ℕ) → 40 ≤ size → conceal_words size mode ≡ r → (r ≡ conceal_words size mode) × (r ≤ words size)
-conceal-is size mode r g e = let f = conceal-few size mode g in (sym e, omega arith)
 
 -- ---- the block
 

@@ -4,20 +4,11 @@ use native.Mathlib.Omega.{arith}
 use mathlib.Core.Path.{sym}
 use Rattle.slot_sizes.proofs.second_hash_size.Goals as goal
 
-pub returns-then-size-lt80 : goal.returns-then-size-lt80
-returns-then-size-lt80 c = let a = c.args in record {
-  value = sym (hash2-small a.size a.mode (omega arith));
-  upper_bound = omega arith;
-}
+pub returns-then-size-lt80-clause-value : goal.returns-then-size-lt80-clause-value
+returns-then-size-lt80-clause-value c = sym (hash2-small c.args.size c.args.mode (omega arith))
 
-pub returns-then-mode-lt3 : goal.returns-then-mode-lt3
-returns-then-mode-lt3 c = let a = c.args in record {
-  value = sym (hash2-two a.size a.mode (omega arith));
-  upper_bound = omega arith;
-}
+pub returns-then-mode-lt3-clause-value : goal.returns-then-mode-lt3-clause-value
+returns-then-mode-lt3-clause-value c = sym (hash2-two c.args.size c.args.mode (omega arith))
 
-pub returns : goal.returns
-returns c = let a = c.args in record {
-  value = sym (hash2-large a.size a.mode (omega arith) (omega arith));
-  upper_bound = omega arith;
-}
+pub returns-clause-value : goal.returns-clause-value
+returns-clause-value c = sym (hash2-large c.args.size c.args.mode (omega arith) (omega arith))

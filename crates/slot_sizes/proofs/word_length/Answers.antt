@@ -10,31 +10,16 @@ overflow_sub-end c = let w = words-thirteen c.args.size (omega arith) in omega a
 pub overflow_mul-count : goal.overflow_mul-count
 overflow_mul-count c = let w = words-thirteen c.args.size (omega arith) in omega arith
 
-pub overflow_mul-count-2 : goal.overflow_mul-count-2
-overflow_mul-count-2 c = let w = words-thirteen c.args.size (omega arith) in omega arith
-
-pub returns-then-end-count : goal.returns-then-end-count
-returns-then-end-count c = let a = c.args in
+pub returns-then-end-count-clause-value : goal.returns-then-end-count-clause-value
+returns-then-end-count-clause-value c = let a = c.args in
     let w = words-thirteen a.size (omega arith) in
-    record {
-      value = length-is a.size a.count a.i 12 (omega arith) (omega arith) (omega arith) (omega arith);
-      lower_bound = omega arith;
-      upper_bound = omega arith;
-    }
+    length-is a.size a.count a.i 12 (omega arith) (omega arith) (omega arith) (omega arith)
 
-pub returns-then-end-count-2 : goal.returns-then-end-count-2
-returns-then-end-count-2 c = let a = c.args in
-    record {
-      value = length-is a.size a.count a.i 13 (omega arith) (omega arith) (omega arith) (omega arith);
-      lower_bound = omega arith;
-      upper_bound = omega arith;
-    }
+pub returns-then-end-count-2-clause-value : goal.returns-then-end-count-2-clause-value
+returns-then-end-count-2-clause-value c = let a = c.args in
+    length-is a.size a.count a.i 13 (omega arith) (omega arith) (omega arith) (omega arith)
 
-pub returns : goal.returns
-returns c = let a = c.args in
+pub returns-clause-value : goal.returns-clause-value
+returns-clause-value c = let a = c.args in
     let w = words-cover a.size in
-    record {
-      value = length-is a.size a.count a.i 14 (omega arith) (omega arith) (omega arith) (omega arith);
-      lower_bound = omega arith;
-      upper_bound = omega arith;
-    }
+    length-is a.size a.count a.i 14 (omega arith) (omega arith) (omega arith) (omega arith)
