@@ -27,9 +27,6 @@ use Rattle.slot_hashing.proofs.HashRaised.{hash-lowered}
 pub degree-fits : (p n : ℕ) → Degree p n → n ≤ 22 → p < 8388608
 degree-fits p n d h = let m : 2 ^ suc n ≤ 2 ^ 23 = pow_mono {j = 23} (omega arith) in let t = d.to in omega arith
 
-pub remainder-fits : (n r : ℕ) → n ≤ 22 → r < 2 ^ n → r < 4194304
-remainder-fits n r h l = let m : 2 ^ n ≤ 2 ^ 22 = pow_mono {j = 22} h in omega arith
-
 -- the bit at power n
 pub shifted-bit : (b n : ℕ) → b < 2 → n ≤ 22 → b * 2 ^ n % 4294967296 ≡ b * 2 ^ n
 shifted-bit b n h l = let k : 1 + n ≤ 32 = omega arith in shl_exact 1 n 32 h k
@@ -121,10 +118,6 @@ hashed-next-four {p} {n} {s} {front} {r} four v last l h e f = record {
       ∙ h.parts;
   is = f ∙ four-hash p n four h.behind r l h.is;
 }
-
-pub hashed-last : {p n : ℕ} {s front : List ℕ} {r : ℕ} → Hashed p n s front r → front ≡ [] → r ≡ hash p n (bits_of s)
-hashed-last {p} {n} h e =
-    h.is ∙ ap (λ (x : List ℕ). hash p n (bits_of x)) (ap (λ (x : List ℕ). x ++ h.behind) (sym e) ∙ h.parts)
 
 -- the rest of a row, as a part of it
 pub hash-rest : (p n : ℕ) (s : List ℕ) (i v : ℕ) → v ≡ hash p n (bits_of (take (length s - i) (drop i s)))

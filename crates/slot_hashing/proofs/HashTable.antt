@@ -228,9 +228,6 @@ semi-pushed-lt p n c r d l =
 pub one_shifted : (n j : ℕ) → n ≤ 22 → 1 * 2 ^ (n - j) % 4294967296 ≡ 2 ^ (n - j)
 one_shifted n j h = let k : 1 + (n - j) ≤ 32 = omega arith in shl_exact 1 (n - j) 32 (omega arith) k ∙ one-mul (2 ^ (n - j))
 
-pub not_none : (n j : ℕ) → n ≤ 22 → 0 < 1 * 2 ^ (n - j) % 4294967296
-not_none n j h = rw (one_shifted n j h) (pow_pos (n - j))
-
 -- what is left of a remainder without its j highest bits
 pub low_fits : (n j k r : ℕ) → n ≤ 22 → n - j ≤ k → r % (1 * 2 ^ (n - j) % 4294967296) < 2 ^ k
 low_fits n j k r h f =

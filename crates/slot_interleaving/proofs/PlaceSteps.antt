@@ -1,4 +1,4 @@
--- What the code of the interleaving asks: turns of the loops that copy, scatter and pack, and a word with its checks made.
+-- What the code of the interleaving asks: turns of the loops that scatter and pack, and a word with its checks made.
 -- Assumes nothing.
 use mathlib.Core.Path.{◌≡◌, refl, sym, ap, ap₂, ◌∙◌}
 use mathlib.Core.Bool.{Bool, true, false}
@@ -7,11 +7,10 @@ use Prim.Native.Nat.{ℕ, zero, suc, ◌+◌, ◌*◌, ◌-◌, ◌≤◌, ◌<�
 use native.Mathlib.Omega.{arith}
 use lib.Bits.{bit_xor}
 use lib.Dec.{eqb, ltb}
-use lib.ListN.{length, get_or, take, drop, set, length-set, length-append, length-drop, replicate, get_or-append}
-use lib.Seq.{length-take-le, get_or-take, get_or-drop, get_or-set_same, get_or-set_other, get_or-append-add}
+use lib.ListN.{length, get_or, take, drop, set, length-set, length-append, replicate, get_or-append}
+use lib.Seq.{get_or-set_same, get_or-set_other, get_or-append-add}
 use borrow.Author.Tests.{eqb-true, eqb-false, ltb-true, ltb-false, lt-ltb, le-ltb}
 use Rattle.laws.specs.Tab.{Below}
-use Rattle.laws.proofs.Tab.{tab-is}
 use Rattle.laws.proofs.Fill.{Filled, filled-last}
 use Rattle.gf16.specs.Field.{sum}
 use Rattle.code_word_laws.specs.Word.{distance, IsDistance}
@@ -36,9 +35,9 @@ use Rattle.slot_interleaving.specs.Inner.{
   Placed,
 }
 use Rattle.slot_laws.proofs.Sizes.{place_in, length_high, checks-fit}
-use Rattle.slot_laws.proofs.Semi.{pack-same, semi-octets-of, below_of}
+use Rattle.slot_laws.proofs.Semi.{pack-same, semi-octets-of}
 use Rattle.slot_laws.proofs.Places.{AllWords, place-lt, place-word, place-number, place-back, word_lt, number_lt, slot_lt}
-use Rattle.slot_laws.proofs.Slot.{all_words, length-word, semi-octets-word}
+use Rattle.slot_laws.proofs.Slot.{all_words, length-word}
 use Rattle.slot_laws.proofs.RoomSteps.{WordPart, end_is}
 
 -- ---- the signature
@@ -71,16 +70,6 @@ row-four mode e = rw e
 pub added-row : (x y z : ℕ) → y ≡ z → bit_xor x y ≡ sum x z
 unfolding sum
 added-row x y z e = ap (bit_xor x) e
-
--- ---- a part copied
-
-pub copy_is : (from : List ℕ) (at n k : ℕ) (out : List ℕ) → at + n ≤ length from → n ≤ k → Filled (λ j. get_or from (at + j) 0) n k out
-    → out ≡ take n (drop at from)
-copy_is from at n k out h l f =
-    let d = length-drop at from in
-    filled-last (λ j. get_or from (at + j) 0) n k out f l
-    ∙ tab-is (λ j. get_or from (at + j) 0) n (take n (drop at from)) (length-take-le n (drop at from) (omega arith))
-    (λ i p. sym (get_or-take n (drop at from) i 0 p ∙ get_or-drop at from i 0))
 
 -- ---- a word scattered
 
@@ -278,9 +267,6 @@ module _ {size mode i at n e : ℕ} {message : List ℕ} (part : WordPart size m
 
   pub part-long : length (take (e - at) (drop at message)) ≡ data_length size mode i
   part-long = ap (λ (x : List ℕ). length x) part-is ∙ length-word size mode message part.range part.given i part.inside
-
-  pub part-below : Below 16 (take (e - at) (drop at message))
-  part-below = rw part-is (below_of (data_word size mode message i) (semi-octets-word size mode message part.range part.given i))
 
   pub part-scattered : (old new : List ℕ) → WordScattered size mode i (take (e - at) (drop at message)) old new
       → Scattered size (signature mode) i (code_word size mode message i) old new

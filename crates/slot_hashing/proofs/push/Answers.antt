@@ -1,12 +1,9 @@
 -- `slot_hashing::push` meets its contract. Assumes nothing.
-use Rattle.slot_hashing.proofs.HashSteps.{degree-fits, remainder-fits, top_bit, push-is}
+use Rattle.slot_hashing.proofs.HashSteps.{degree-fits, top_bit, push-is}
 use Rattle.laws.proofs.Digit.{digit_lt}
 use native.Mathlib.Omega.{arith}
 use mathlib.Core.Path.{refl}
 use Rattle.slot_hashing.proofs.push.Goals as goal
-
-pub overflow_mul-v : goal.overflow_mul-v
-overflow_mul-v c = let a = c.args in let f = remainder-fits a.n a.r c.requires.divisor.to c.requires.r_bound in omega arith
 
 pub overflow_mul-result : goal.overflow_mul-result
 overflow_mul-result c =

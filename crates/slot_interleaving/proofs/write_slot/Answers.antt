@@ -1,11 +1,11 @@
 -- `slot_interleaving::write_slot` meets its contract. The invariant of its loop stands at the head. Assumes nothing.
-use mathlib.Core.Path.{refl, sym}
+use mathlib.Core.Path.{refl}
 use Prim.Native.Nat.{◌≤◌, ◌-◌, ◌+◌}
 use native.Mathlib.Omega.{arith}
 use Rattle.slot_laws.specs.Sizes.{words}
 use Rattle.slot_laws.proofs.Slot.{all_words, signature-lt}
 use Rattle.slot_laws.proofs.RoomSteps.{WordPart, word-part, start_first, next_start, before-end, end-few}
-use Rattle.slot_interleaving.proofs.PlaceSteps.{placed_first, placed-next, placed_below, part-long, part-below, part-scattered, written}
+use Rattle.slot_interleaving.proofs.PlaceSteps.{placed_first, placed-next, placed_below, part-long, part-scattered, written}
 use Rattle.slot_interleaving.proofs.write_slot.Goals as goal
 use Rattle.slot_interleaving.proofs.write_slot.Goals.{After-word_length, After-loop-i}
 
@@ -25,21 +25,15 @@ overflow_add-e c = record { fits = omega (arith, end-few (part (goal.at.overflow
 pub slice_bounds-place_word-end : goal.slice_bounds-place_word-end
 slice_bounds-place_word-end c = before-end (part (goal.at.slice_bounds-place_word-end c).After-word_length)
 
-pub slice_bounds-place_word-end-in-loop-i : goal.slice_bounds-place_word-end-in-loop-i
-slice_bounds-place_word-end-in-loop-i c = sym c.loop-i.invariant.1.long
-
-pub place_word-requires : goal.place_word-requires
-place_word-requires c =
-    let p = part (goal.at.place_word-requires c).After-word_length in
-    let r = p.range in record {
-      with_rows = record {
-        range = r;
-        word_below = p.inside;
-        message_long = part-long p;
-        rows_are = c.check_rows-rows.ensures.inside r.mode_from r.mode_to;
-        places_long = c.loop-i.invariant.1.long;
-      };
-      below = part-below p;
+pub place_word-requires-clause-with_rows : goal.place_word-requires-clause-with_rows
+place_word-requires-clause-with_rows c =
+    let p = part (goal.at.place_word-requires-clause-with_rows c).After-word_length in
+    record {
+      range = p.range;
+      word_below = p.inside;
+      message_long = part-long p;
+      rows_are = c.check_rows-rows.ensures.inside p.range.mode_from p.range.mode_to;
+      places_long = c.loop-i.invariant.1.long;
     }
 
 pub loop-i-preserved : goal.loop-i-preserved
@@ -50,9 +44,6 @@ loop-i-preserved c =
       placed-next p.range.size_from (all_words a.size a.mode a.message.now p.range p.given) c.loop-i.invariant.1 p.inside
           (part-scattered p c.loop-i.places c.place_word.new.places c.place_word.ensures),
     )
-
-pub slice_bounds-pack_bytes-end : goal.slice_bounds-pack_bytes-end
-slice_bounds-pack_bytes-end c = sym c.loop-i.invariant.1.long
 
 all_placed : (c : After-loop-i) → words c.args.size ≤ c.loop-i.i
 all_placed c = omega (arith, c.word_count-count.ensures.value, c.loop-i-test.false)
