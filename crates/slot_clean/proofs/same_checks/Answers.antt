@@ -3,16 +3,10 @@ use Prim.Native.Nat.{◌<◌, ◌-◌}
 use native.Mathlib.Omega.{arith}
 use Rattle.code_word_laws.specs.Word.{distance}
 use Rattle.slot_clean.specs.Inner.{checks_from}
-use Rattle.slot_interleaving.proofs.PlaceSteps.{check-in, has-place, in_row}
-use Rattle.slot_clean.proofs.CleanSteps.{check-at, length-checks, compared-first, compared-next, compared-last}
+use Rattle.slot_interleaving.proofs.PlaceSteps.{check-in, has-place}
+use Rattle.slot_clean.proofs.CleanSteps.{check-at, length-checks, compared-next, compared-last}
 use Rattle.slot_clean.proofs.same_checks.Goals as goal
 use Rattle.slot_clean.proofs.same_checks.Goals.{In-loop-k}
-
-pub loop-k-init : goal.loop-k-init
-loop-k-init c =
-    let a = c.args in
-    rw c.distance-k.ensures.is
-    (compared-first (distance a.mode - 1) a.r (checks_from a.size a.mode a.places.now a.i) (length-checks c.requires))
 
 in-checks : (c : In-loop-k) → c.loop-k.k - 1 < distance c.args.mode - 1
 in-checks c = omega (arith, c.loop-k-test.true)
@@ -20,9 +14,6 @@ in-checks c = omega (arith, c.loop-k-test.true)
 pub place-requires : goal.place-requires
 place-requires c =
     has-place c.requires c.word_count-count.ensures.value (check-in c.requires (in-checks (goal.at.place-requires c).In-loop-k))
-
-pub bounds-row-k : goal.bounds-row-k
-bounds-row-k c = in_row c.requires (check-in c.requires (in-checks (goal.at.bounds-row-k c).In-loop-k))
 
 pub loop-k-preserved : goal.loop-k-preserved
 loop-k-preserved c =

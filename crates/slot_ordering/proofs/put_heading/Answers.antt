@@ -1,15 +1,8 @@
 -- `slot_ordering::put_heading` meets its contract. Assumes nothing.
 use Rattle.slot_ordering.proofs.OrderSteps.{heading-is}
-use lib.Seq.{length-take-le}
 use native.Mathlib.Omega.{arith}
 use Prim.Native.Nat.{◌+◌, ◌*◌}
-use mathlib.Core.Path.{sym}
 use Rattle.slot_ordering.proofs.put_heading.Goals as goal
-
-pub slice_bounds-put_semis-end-2 : goal.slice_bounds-put_semis-end-2
-slice_bounds-put_semis-end-2 c =
-    let e = c.first_hash_size-e in
-    sym (length-take-le (2 * e.result) c.args.out.now (omega arith))
 
 pub returns : goal.returns
 returns c =

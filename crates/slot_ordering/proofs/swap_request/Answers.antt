@@ -4,14 +4,8 @@ use Rattle.slot_laws.proofs.Sizes.{words-low}
 use native.Mathlib.Omega.{arith}
 use Rattle.slot_ordering.proofs.swap_request.Goals as goal
 
-pub word_length-requires : goal.word_length-requires
-word_length-requires c = let w = words-low c.args.size c.requires.in_range.size_from in
-    record {
-      le_size = omega (arith, c.requires.in_range.size_from, c.requires.in_range.size_to, c.word_count-count.ensures.value);
-      size_bound = omega (arith, c.requires.in_range.size_from, c.requires.in_range.size_to, c.word_count-count.ensures.value);
-      count_value = omega (arith, c.requires.in_range.size_from, c.requires.in_range.size_to, c.word_count-count.ensures.value);
-      i_bound = omega (arith, c.requires.in_range.size_from, c.requires.in_range.size_to, c.word_count-count.ensures.value);
-    }
+pub word_length-requires-clause-i_bound : goal.word_length-requires-clause-i_bound
+word_length-requires-clause-i_bound c = let w = words-low c.args.size c.requires.in_range.size_from in omega arith
 
 pub swap-requires : goal.swap-requires
 swap-requires c =
