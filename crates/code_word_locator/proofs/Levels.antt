@@ -41,7 +41,8 @@ module _ (s : ℕ) where
       → m12 ≡ minor_two s2 s3 s3 s4 → m13 ≡ minor_two s2 s4 s3 s5 → m23 ≡ minor_two s3 s4 s4 s5
       → a ≡ triple m13 s3 m03 s4 m01 s6 → b ≡ triple m23 s3 m03 s5 m02 s6 → c ≡ triple m23 s4 m13 s5 m12 s6
       → i ≡ inverse d → x ≡ product i a → y ≡ product i b → z ≡ product i c → IsLocator 3 s x y z s3
-  locator-three-done {a = a} {b = b} {c = c} {i = i} {x = x} {y = y} {z = z} e1 e2 e3 e4 e5 e6 nz e01d e01 e02 e03 e12 e13 e23 ea eb ec ei ex ey ez =
+  locator-three-done {a = a} {b = b} {c = c} {i = i} {x = x} {y = y} {z = z} e1 e2 e3 e4 e5 e6 nz e01d e01 e02 e03 e12 e13 e23
+      ea eb ec ei ex ey ez =
       let fx : x ≡ product (inverse (minor n1 n2 n3 n4 n5)) (minor2 n1 n2 n3 n4 n5 n6) = cc in
       let fy : y ≡ product (inverse (minor n1 n2 n3 n4 n5)) (minor1 n1 n2 n3 n4 n5 n6) = cc in
       let fz : z ≡ product (inverse (minor n1 n2 n3 n4 n5)) (minor0 n1 n2 n3 n4 n5 n6) = cc in

@@ -27,8 +27,9 @@ pub returns-in-Some : goal.returns-in-Some
 returns-in-Some c =
     let v = c.in-Some.v in
     let (below, nonzero, corrected) = c.in-Some.ensures in
-    let n : c.counted.result.count ≡ 1 = c.counted.ensures.count ∙ count_of v c.both_counts.result below nonzero c.both_counts.ensures.value in
-    let b = c.counted.ensures.bits ∙ bits-of v c.both_counts.result below c.both_counts.ensures.value in
+    let both = c.both_counts in
+    let n = c.counted.ensures.count ∙ count_of v both.result below nonzero both.ensures.value in
+    let b = c.counted.ensures.bits ∙ bits-of v both.result below both.ensures.value in
     (omega (arith, c.requires.most_from), rw (n, b) corrected)
 
 pub accepted-requires : goal.accepted-requires

@@ -12,8 +12,10 @@ use Rattle.code_word_corrector.proofs.correct_words.Goals.{After-dealt}
 -- the end of word i lies in the words
 inside : (c : After-dealt) → c.loop-i.at + c.dealt.result ≤ length c.args.words.now
 inside c =
-    let k = c.loop-i.invariant in
-    omega (arith, batch-inside _ _ _ _ _ _ _ _ _ k c.dealt.result (dealt-is c.loop-i.i c.requires.dealt c.dealt.ensures) (omega arith), k.as_long)
+    let l = c.loop-i in
+    let k = l.invariant in
+    let long-of = dealt-is l.i c.requires.dealt c.dealt.ensures in
+    omega (arith, batch-inside _ _ _ _ _ _ _ _ _ k c.dealt.result long-of (omega arith), k.as_long)
 
 pub overflow_add-end : goal.overflow_add-end
 overflow_add-end c = record { fits = omega (arith, inside c) }

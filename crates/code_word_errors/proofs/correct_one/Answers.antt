@@ -9,6 +9,7 @@ returns c =
     let below = c.times-v.ensures.upper_bound in (
       below,
       c.if-v-eq0.false,
-      taken-off-one c.args.most c.args.word.now c.args.s c.from-k.result c.times-v.result c.row.result p.most_from p.most_to p.short
-          p.semi_octets c.requires.syndromes (omega arith) below c.if-v-eq0.false c.row.ensures (c.clear.ensures.holds c.if-not-clear.false),
+      taken-off-one c.args.most c.args.word.now c.args.s c.from-k.result c.times-v.result c.row.result p.most_from p.most_to
+          p.short p.semi_octets c.requires.syndromes (omega arith) below c.if-v-eq0.false c.row.ensures
+          (c.clear.ensures.holds c.if-not-clear.false),
     )

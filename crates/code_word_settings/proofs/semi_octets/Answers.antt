@@ -1,4 +1,4 @@
--- `code_word_settings::semi_octets` meets its contract: the bits of all elements are low where each element is a semi-octet. Assumes nothing.
+-- `code_word_settings::semi_octets` meets its contract: the bits of all elements are low where each is a semi-octet. Assumes nothing.
 use mathlib.Core.Path.{◌≡◌}
 use Prim.Native.Nat.{ℕ, ◌-◌}
 use borrow.Author.Rules.{rules}
