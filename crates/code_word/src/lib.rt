@@ -29,14 +29,14 @@ pub fn make(word: &mut [u8], mode: u32) -> Result<(), Refusal>
         return Err(Refusal::Setting);
     }
     let rows = code_word_encoder::rows(mode);
-    let r = code_word_encoder::divide(&rows, word, n);
+    let r = code_word_encoder::divide(rows, word, n);
     code_word_encoder::put_checks(word, n, r);
     Ok(())
 }
 
-// What each data semi-octet adds to the check semi-octets in a mode: made once for many words, and lent to `with_data`.
-pub fn check_rows(mode: u32) -> [u32; 208]
-    ensures { IsCheckRows mode result }
+// What each data semi-octet adds to the check semi-octets in a mode, for `with_data`.
+pub fn check_rows(mode: u32) -> &'static [u32; 208]
+    ensures { IsCheckRows mode result.now }
 {
     code_word_encoder::checks::check_rows(mode)
 }
@@ -62,12 +62,11 @@ pub fn correct(word: &mut [u8], mode: u32) -> Result<Correction, Refusal>
     if !code_word_settings::semi_octets(word, 0) {
         return Err(Refusal::Setting);
     }
-    let t = code_word_syndromes::table();
-    code_word_corrector::correct_word(&t, word, (mode - 1) as u8).ok_or(Refusal::Beyond)
+    code_word_corrector::correct_word(word, (mode - 1) as u8).ok_or(Refusal::Beyond)
 }
 
 // Corrects as many words as there are counts, with the semi-octets in one buffer and the bits in another: the words stand one after the
-// other, as even in length as can be, the longer first. The table is made once for all of them.
+// other, as even in length as can be, the longer first.
 pub fn correct_each(
     words: &mut [u8],
     mode: u32,
@@ -95,7 +94,6 @@ pub fn correct_each(
         return Err(Refusal::Setting);
     }
     let most = (mode - 1) as u8;
-    let t = code_word_syndromes::table();
-    code_word_corrector::correct_words(&t, words, long, over, most, counts, bits);
+    code_word_corrector::correct_words(words, long, over, most, counts, bits);
     Ok(())
 }

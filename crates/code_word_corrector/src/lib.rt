@@ -7,7 +7,7 @@
 ghost use Rattle.std.specs.Prelude.{cond, ◌≡◌, ◌+◌, ◌/◌, ◌%◌, ◌≤◌, ltb, length, MatchOption};
 ghost use Rattle.code_word_laws.specs.Word.{SemiOctets};
 ghost use Rattle.code_word_laws.specs.Correct.{WordCorrected, EachCorrected};
-ghost use Rattle.code_word_laws.specs.Corrector.{TableFor, WordFor, Dealt};
+ghost use Rattle.code_word_laws.specs.Corrector.{Sought, WordFor, Dealt};
 
 use code_word_answers::Correction;
 use code_word_errors::{accepted, correct_one, take_off};
@@ -27,22 +27,22 @@ fn counted(both: u32) -> Correction
 }
 
 // Corrects one word with a lent table, and answers its counts, or none where no valid word is near, and then the word is as it was lent.
-pub fn correct_word(t: &[u32; 512], word: &mut [u8], most: u8) -> Option<Correction>
-    requires { WordFor t.now word.old most }
+pub fn correct_word(word: &mut [u8], most: u8) -> Option<Correction>
+    requires { WordFor word.old most }
     ensures { MatchOption result (WordCorrected (most + 1) word.old word.new (most + 1) 0)
         (λ found. (found.count ≤ most) × WordCorrected (most + 1) word.old word.new found.count found.bits) }
 {
-    let s = syndromes(t, word);
+    let s = syndromes(word);
     if clear(s, most) {
         return Some(Correction { count: 0, bits: 0 });
     }
-    if let Some(v) = correct_one(t, word, s, most) {
-        return Some(counted(both_counts(t, v)));
+    if let Some(v) = correct_one(word, s, most) {
+        return Some(counted(both_counts(v)));
     }
-    let e = error_word(t, s, most);
-    let found = counted(take_off(t, word, e));
-    if !accepted(t, word, most, found.count) {
-        take_off(t, word, e);
+    let e = error_word(s, most);
+    let found = counted(take_off(word, e));
+    if !accepted(word, most, found.count) {
+        take_off(word, e);
         return None;
     }
     Some(found)
@@ -58,7 +58,6 @@ fn dealt(long: usize, over: usize, i: usize) -> usize
 
 // Corrects each word with a lent table, and leaves its counts, or t + 1 and 0 where it has none.
 pub fn correct_words(
-    t: &[u32; 512],
     words: &mut [u8],
     long: usize,
     over: usize,
@@ -66,7 +65,7 @@ pub fn correct_words(
     counts: &mut [u8],
     bits: &mut [u8],
 )
-    requires table_for { TableFor t.now most }
+    requires sought { Sought most }
     requires dealt { Dealt (length words.old) (length counts.old) long over }
     requires semi_octets { SemiOctets words.old }
     requires bits_len { length bits.old ≡ length counts.old }
@@ -79,7 +78,7 @@ pub fn correct_words(
             count: most + 1,
             bits: 0,
         };
-        let found = correct_word(t, &mut words[at..end], most).unwrap_or(none);
+        let found = correct_word(&mut words[at..end], most).unwrap_or(none);
         counts[i] = found.count;
         bits[i] = found.bits;
         at = end;

@@ -1,11 +1,9 @@
 // What each data semi-octet adds to the check semi-octets of its word, for each mode: specs/Checks.antt of `code_word_laws` says what the
 // entries are.
-ghost use Rattle.std.specs.Prelude.{◌≡◌, ◌-◌, ◌≤◌};
-ghost use Rattle.code_word_laws.specs.Word.{distance};
-ghost use Rattle.code_word_laws.specs.Checks.{IsCheckRows, check_rows};
+ghost use Rattle.code_word_laws.specs.Checks.{IsCheckRows};
 
 // Entry 16 k + c: the two check semi-octets over c alone at data place k, packed.
-const TWO: [u32; 208] = [
+static TWO: [u32; 208] = [
     0x00, 0x86, 0x3c, 0xba, 0x6b, 0xed, 0x57, 0xd1, 0xc5, 0x43, 0xf9, 0x7f, 0xae, 0x28, 0x92, 0x14,
     0x00, 0x5f, 0xad, 0xf2, 0x79, 0x26, 0xd4, 0x8b, 0xe1, 0xbe, 0x4c, 0x13, 0x98, 0xc7, 0x35, 0x6a,
     0x00, 0x11, 0x22, 0x33, 0x44, 0x55, 0x66, 0x77, 0x88, 0x99, 0xaa, 0xbb, 0xcc, 0xdd, 0xee, 0xff,
@@ -22,7 +20,7 @@ const TWO: [u32; 208] = [
 ];
 
 // The four of them.
-const FOUR: [u32; 208] = [
+static FOUR: [u32; 208] = [
     0x0000, 0x78cd, 0xe3b9, 0x9b74, 0xf651, 0x8e9c, 0x15e8, 0x6d25, 0xdca2, 0xa46f, 0x3f1b, 0x47d6,
     0x2af3, 0x523e, 0xc94a, 0xb187, 0x0000, 0x55b2, 0xaa54, 0xffe6, 0x77a8, 0x221a, 0xddfc, 0x884e,
     0xee73, 0xbbc1, 0x4427, 0x1195, 0x99db, 0xcc69, 0x338f, 0x663d, 0x0000, 0xe6e2, 0xfcf4, 0x1a16,
@@ -44,7 +42,7 @@ const FOUR: [u32; 208] = [
 ];
 
 // The six of them.
-const SIX: [u32; 208] = [
+static SIX: [u32; 208] = [
     0x000000, 0xcac397, 0xb7b61e, 0x7d7589, 0x5e5c2f, 0x949fb8, 0xe9ea31, 0x2329a6, 0xafab4d,
     0x6568da, 0x181d53, 0xd2dec4, 0xf1f762, 0x3b34f5, 0x46417c, 0x8c82eb, 0x000000, 0x2f859f,
     0x4d3a1d, 0x62bf82, 0x896729, 0xa6e2b6, 0xc45d34, 0xebd8ab, 0x31ce41, 0x1e4bde, 0x7cf45c,
@@ -71,25 +69,17 @@ const SIX: [u32; 208] = [
     0x000f00,
 ];
 
-// The table of a mode; one of zeros for a mode that is none.
-pub fn check_rows(mode: u32) -> [u32; 208]
-    ensures { IsCheckRows mode result }
-{
-    if mode < 2 || 4 < mode {
-        return [0; 208];
-    }
-    rows_of(mode)
-}
+// What a mode that is none gets: no data add anything.
+static NONE: [u32; 208] = [0; 208];
 
-// LLVM lays a match of three tables down as vectors, one of four as a table for each entry: so the zeros stand apart.
-fn rows_of(mode: u32) -> [u32; 208]
-    requires le_mode { 2 ≤ mode }
-    requires mode_bound { mode ≤ 4 }
-    ensures { result ≡ check_rows (distance mode - 1) }
+// The table of a mode; one of zeros for a mode that is none.
+pub fn check_rows(mode: u32) -> &'static [u32; 208]
+    ensures { IsCheckRows mode result.now }
 {
     match mode {
-        2 => TWO,
-        3 => FOUR,
-        _ => SIX,
+        2 => &TWO,
+        3 => &FOUR,
+        4 => &SIX,
+        _ => &NONE,
     }
 }

@@ -11,32 +11,32 @@ ghost use Rattle.code_word_laws.specs.Register.{feedback, fed, register, with_ch
 pub mod checks;
 
 // Entry f is f times the generating polynomial of degree 2 without its leading power, the highest coefficient in the lowest digit.
-const TWO: [u64; 16] = [
+static TWO: [u64; 16] = [
     0x00, 0x86, 0x3c, 0xba, 0x6b, 0xed, 0x57, 0xd1, 0xc5, 0x43, 0xf9, 0x7f, 0xae, 0x28, 0x92, 0x14,
 ];
 
 // The same of degree 4.
-const FOUR: [u64; 16] = [
+static FOUR: [u64; 16] = [
     0x0000, 0x78cd, 0xe3b9, 0x9b74, 0xf651, 0x8e9c, 0x15e8, 0x6d25, 0xdca2, 0xa46f, 0x3f1b, 0x47d6,
     0x2af3, 0x523e, 0xc94a, 0xb187,
 ];
 
 // The same of degree 6.
-const SIX: [u64; 16] = [
+static SIX: [u64; 16] = [
     0x000000, 0xcac397, 0xb7b61e, 0x7d7589, 0x5e5c2f, 0x949fb8, 0xe9ea31, 0x2329a6, 0xafab4d,
     0x6568da, 0x181d53, 0xd2dec4, 0xf1f762, 0x3b34f5, 0x46417c, 0x8c82eb,
 ];
 
 // The table of a mode.
-pub fn rows(mode: u32) -> [u64; 16]
+pub fn rows(mode: u32) -> &'static [u64; 16]
     requires le_mode { 2 ≤ mode }
     requires mode_bound { mode ≤ 4 }
-    ensures { result ≡ feedback (distance mode - 1) }
+    ensures { result.now ≡ feedback (distance mode - 1) }
 {
     match mode {
-        2 => TWO,
-        3 => FOUR,
-        _ => SIX,
+        2 => &TWO,
+        3 => &FOUR,
+        _ => &SIX,
     }
 }
 

@@ -2,16 +2,12 @@
 -- values at 2^0 .. 2^14, among them its syndromes, to the error locator, by which the sums of its errors go on, and back from the sums to
 -- the errors.
 -- Assumes nothing.
-use Rattle.std.specs.Prelude.{◌≡◌, ◌≢◌, List, [], ◌∷◌, ℕ, zero, suc, ◌+◌, ◌-◌, ◌*◌, ◌/◌, ◌%◌, ◌≤◌, ◌<◌, eqb, length, get_or}
+use Rattle.std.specs.Prelude.{◌≡◌, ◌≢◌, List, [], ◌∷◌, ℕ, zero, suc, ◌+◌, ◌-◌, ◌*◌, ◌/◌, ◌%◌, ◌^◌, ◌≤◌, ◌<◌, eqb, length, get_or}
 use Rattle.gf16.specs.Field.{sum, product, power}
 use Rattle.code_word_laws.specs.Polynomial.{value}
 use Rattle.code_word_laws.specs.Word.{SemiOctets, Roots, unequal, semi_octet_changed, bits_changed, ones, apart, bits_apart}
 use Rattle.code_word_laws.specs.Correct.{WordCorrected, length_at}
 use Rattle.code_word_laws.specs.Packed.{nibble}
-
--- number i of a table of halves, the low half first
-abbrev pub number_at : List ℕ → ℕ → ℕ
-number_at t i = get_or t (2 * i) 0 + get_or t (2 * i + 1) 0 * 4294967296
 
 -- both counts of a semi-octet in one number: its bits 16 times
 abbrev pub both_changed : ℕ → ℕ → ℕ
@@ -21,26 +17,24 @@ both_changed x y = semi_octet_changed x y + 16 * bits_changed x y
 unfoldable pub both_of : ℕ → ℕ
 both_of v = unequal (eqb v 0) + 16 * ones v
 
--- the table that the steps are lent: number 16 a + b has the digits b times 2^(a j) for j below 15, and a times b as digit 15, the highest
--- of its high half; the low half of number 240 + b has both counts of an error of value b
+-- the table that the steps read: number 16 a + b has the digits b times 2^(a j) for j below 15, and a times b as digit 15, its highest;
+-- the low half of number 240 + b has both counts of an error of value b
 pub record Table (t : List ℕ) : Type 0 where
-  pub spread : (a b j : ℕ) → a < 15 → b < 16 → j < 15 → nibble j (number_at t (16 * a + b)) ≡ product b (power (power 2 a) j)
-  pub times : (a b : ℕ) → a < 16 → b < 16 → get_or t (2 * (16 * a + b) + 1) 0 / 268435456 ≡ product a b
-  pub counts : (v : ℕ) → v < 16 → get_or t (2 * (240 + v)) 0 ≡ both_of v
+  pub spread : (a b j : ℕ) → a < 15 → b < 16 → j < 15 → nibble j (get_or t (16 * a + b) 0) ≡ product b (power (power 2 a) j)
+  pub times : (a b : ℕ) → a < 16 → b < 16 → get_or t (16 * a + b) 0 / 2 ^ 60 ≡ product a b
+  pub counts : (v : ℕ) → v < 16 → get_or t (240 + v) 0 % 4294967296 ≡ both_of v
 
 -- the digits of r are x times 2^(a j)
 abbrev pub Row : ℕ → ℕ → ℕ → Type 0
 Row a x r = (j : ℕ) → j < 15 → nibble j r ≡ product x (power (power 2 a) j)
 
--- what the steps ask: the table, and 1 to 3 errors to look for
-pub record TableFor (t : List ℕ) (most : ℕ) : Type 0 where
-  pub table : Table t
+-- what the steps ask: 1 to 3 errors to look for
+pub record Sought (most : ℕ) : Type 0 where
   pub most_from : 1 ≤ most
   pub most_to : most ≤ 3
 
 -- .. in this word
-pub record WordFor (t word : List ℕ) (most : ℕ) : Type 0 where
-  pub table : Table t
+pub record WordFor (word : List ℕ) (most : ℕ) : Type 0 where
   pub most_from : 1 ≤ most
   pub most_to : most ≤ 3
   pub short : length word ≤ 15
@@ -121,9 +115,8 @@ pub record IsLocator (t s r1 r2 r3 u : ℕ) : Type 0 where
   pub start : u < 16
   pub locator : Continues t s r1 r2 r3 u
 
--- the table, a locator, and the first three values
-pub record Started (t : List ℕ) (r1 r2 r3 s1 s2 u : ℕ) : Type 0 where
-  pub table : Table t
+-- a locator, and the first three values
+pub record Started (r1 r2 r3 s1 s2 u : ℕ) : Type 0 where
   pub locator : SemiOctets (r1 ∷ r2 ∷ r3 ∷ [])
   pub first : s1 < 16
   pub second : s2 < 16

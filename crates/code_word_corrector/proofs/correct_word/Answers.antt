@@ -38,7 +38,6 @@ accepted-requires c =
     let e : c.take_off.new.word ≡ taken_off c.args.word.now c.error_word-e.result =
     c.take_off.ensures.word_is ∙ ap (λ (l : List ℕ). taken_off l c.error_word-e.result) c.in_default.ensures in
     record {
-      table = p.table;
       most_from = p.most_from;
       most_to = p.most_to;
       short = rw e (omega (arith, taken-off-length c.args.word.now c.error_word-e.result));

@@ -32,9 +32,8 @@ correct_word-requires c =
     let e : l.at + d - l.at ≡ d = omega arith in
     let i-in : l.i < length c.args.counts.now = omega arith in
     record {
-      table = p.table_for.table;
-      most_from = p.table_for.most_from;
-      most_to = p.table_for.most_to;
+      most_from = p.sought.most_from;
+      most_to = p.sought.most_to;
       short = rw e (omega (arith, p.dealt.short l.i i-in, long-of, length-take d (drop l.at l.words)));
       semi_octets = rw e (batch-semi _ _ _ _ _ _ _ _ _ l.invariant d long-of i-in p.semi_octets);
     }

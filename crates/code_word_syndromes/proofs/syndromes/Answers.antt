@@ -9,7 +9,6 @@ loop-i-init c = syndromes-first c.args.word.now
 
 pub row-s-requires : goal.row-s-requires
 row-s-requires c = record {
-  table = c.requires.table;
   a_bound = omega arith;
   x_bound = semi-octet-at c.args.word.now c.loop-i.i c.requires.semi_octets;
 }
@@ -17,7 +16,7 @@ row-s-requires c = record {
 pub loop-i-preserved : goal.loop-i-preserved
 loop-i-preserved c =
     syndromes-next c.args.word.now c.loop-i.i c.loop-i.s c.row-s.result (omega arith)
-        c.requires.semi_octets c.loop-i.invariant c.row-s.ensures
+    c.requires.semi_octets c.loop-i.invariant c.row-s.ensures
 
 pub returns : goal.returns
 returns c =
