@@ -7,7 +7,7 @@ use Prim.Native.Nat.{ℕ, zero, suc, ◌+◌, ◌*◌, ◌-◌, ◌/◌, ◌%◌
 use native.Mathlib.Omega.{arith}
 use lib.Bits.{bit_xor, bit_or, or_add_and, and_le_l, and_le_r}
 use lib.Dec.{eqb}
-use lib.ListN.{length, get_or, drop, length-drop, take-append-drop, drop_of_length-le}
+use lib.ListN.{length, get_or, drop, length-drop, take-append-drop}
 use lib.Seq.{length-take-le, get_or-take, get_or-drop, drop-cons}
 use borrow.Author.Tests.{eqb-true, eqb-false}
 use borrow.Rule.Slice.PartMut.{put_mid}
@@ -100,9 +100,6 @@ with-checks-step (suc k) r w p h e =
 -- as far as place k the check semi-octets are the digits, where no bit was found
 abbrev pub Compared : ℕ → ℕ → List ℕ → ℕ → ℕ → ℕ → Type 0
 Compared n r w k rest bits = bits ≡ 0 → with_checks n r [] ≡ with_checks k rest (drop k w)
-
-pub compared-first : (n r : ℕ) (w : List ℕ) → length w ≡ n → Compared n r w n r 0
-compared-first n r w l e = ap (λ (x : List ℕ). with_checks n r x) (sym (drop_of_length-le w {i = n} (omega arith)))
 
 pub compared-next : (n r : ℕ) (w : List ℕ) (k rest bits x : ℕ) → length w ≡ n → k ≤ n → 0 < k → x ≡ get_or w (k - 1) 0
     → Compared n r w k rest bits

@@ -4,7 +4,7 @@ use mathlib.Core.Path.{◌≡◌, sym, ap, ap₂, ◌∙◌}
 use mathlib.Core.List.{List, [], ◌∷◌, ◌++◌, append-nil}
 use Prim.Native.Nat.{ℕ, ◌+◌, ◌*◌, ◌-◌, ◌/◌, ◌%◌, ◌^◌, ◌≤◌, ◌<◌}
 use native.Mathlib.Omega.{arith}
-use native.Mathlib.Nat.{div-div-eq-div-mul, div-one, pow-suc}
+use native.Mathlib.Nat.{div-div-eq-div-mul, pow-suc}
 use native.Mathlib.Numerals.{add-one}
 use lib.ListN.{length, get_or, take, drop, set, length-append, length-drop, drop_of_length-le}
 use lib.Seq.{length-take-le, take_at, drop_at, take_all}
@@ -67,9 +67,6 @@ pub semis-is : (v n i : ℕ) (out : List ℕ) → n ≤ i → Filled (digit v) n
 unfolding digit
 semis-is v n i out h f =
     filled-last (digit v) n i out f h ∙ tab-is (digit v) n (semis n v) (length-semis n v) (λ k p. sym (get_or-semis n v k p))
-
-pub left-first : (v : ℕ) → v ≡ v / 16 ^ 0
-left-first v = sym (div-one v)
 
 pub left-next : (v left i : ℕ) → left ≡ v / 16 ^ i → left / 16 ≡ v / 16 ^ (i + 1)
 left-next v left i e =
