@@ -30,8 +30,8 @@ pub record Asked (r : Setting) (g : Given) : Type 0 where
   pub count : g.fields.residual_bits ≤ length g.residual
   pub long : 22 ≤ length (bits_before r g)
 
-pub asked : (r : Setting) (n : ℕ) (g : Given) → Writable r n g → Asked r g
-asked r n g w =
+pub asked : {r : Setting} {n : ℕ} {g : Given} → Writable r n g → Asked r g
+asked {r} {n} {g} w =
     let v = g.fields.side in
     let f = fields-given r g.fields g.first g.second w.fields w.first w.second in
     let l = lines-given g.fields g.lines g.residual w.lines in

@@ -1,6 +1,7 @@
 -- Both streams up to the last pair: the parts that were written one after the other are the frame's. Assumes nothing.
 use mathlib.Core.Path.{◌≡◌, sym, ap, ◌∙◌}
 use mathlib.Core.List.{List}
+use Rattle.std.specs.Prelude.{Option, Some, None}
 use Prim.Native.Nat.{ℕ, ◌/◌, ◌≤◌}
 use native.Mathlib.Omega.{arith}
 use lib.ListN.{length}
@@ -28,7 +29,6 @@ use Rattle.writer_steps.specs.Sends.{Sends, PairsAre}
 use Rattle.writer_steps.specs.Frames.{StreamsAre}
 use Rattle.writer_steps.specs.declared.Cursor.{Cursor}
 use Rattle.writer_steps.specs.declared.PairsSent.{PairsSent}
-use Rattle.writer_steps.specs.declared.PairsSent.TheVariants as pairs_sent
 
 -- ---- the tables
 
@@ -44,6 +44,9 @@ pair-tables look cum e f =
     record { looks = ap length e ∙ length-by-context look_table; rows = rw (standard look e, f) spectrum-tables }
 
 -- ---- the parts
+
+pub start-counts : (c : Coder) → c ≡ send_start → (c.at ≡ 3) × (c.taken ≡ 0)
+start-counts c e = (ap (λ (d : Coder). d.at) e, ap (λ (d : Coder). d.taken) e)
 
 module _ (r : Setting) (n : ℕ) (g : Given) where
   abbrev pairs : ℕ
@@ -78,12 +81,12 @@ module _ (r : Setting) (n : ℕ) (g : Given) where
   -- the pairs behind them: both streams are the frame's, or they want more than it has
   module _ (front front' side side' : List ℕ) (c : Coder) (p : Cursor) (whole : whole_of front c ≡ behind1 r n g)
       (kept : Kept field_bits side p) where
-    behind : (o : PairsSent) → PairsAre n (items2 r n g) (pairs_bits g.lines pairs 0) front front' side side' c p o
+    behind : (o : Option PairsSent) → PairsAre n (items2 r n g) (pairs_bits g.lines pairs 0) front front' side side' c p o
         → StreamsAre r n g front' side' o
     unfolding needed_bits
-    behind (pairs_sent.Sent d q) h =
+    behind (Some s) h =
         (h.0.coder ∙ (ap (coded_all (items2 r n g)) whole ∙ sym (stream-is r n g)), before-kept kept h.0.kept, h.1, h.2)
-    behind pairs_sent.TooSmall h =
+    behind None h =
         let e : (stream_of r n g).at ≡ (coded_all (items2 r n g) (whole_of front c)).at =
         ap (λ (c : Coder). c.at) (stream-is r n g ∙ ap (coded_all (items2 r n g)) (sym whole)) in
         let m = log2-most (stream_of r n g).range 23 in
@@ -91,7 +94,7 @@ module _ (r : Setting) (n : ℕ) (g : Given) where
         let a = kept.at in
         omega arith
 
-    pub streams-are : (look cum : List ℕ) (lsb offset m : ℕ) (o : PairsSent) → look ≡ by_context look_table → cum ≡ spectrum_table
+    pub streams-are : (look cum : List ℕ) (lsb offset m : ℕ) (o : Option PairsSent) → look ≡ by_context look_table → cum ≡ spectrum_table
         → lsb ≡ g.fields.side.head.lsb_mode → offset ≡ rate_offset r.index n → m ≡ g.fields.side.head.last_line
         → PairsAre n (pairs_items (by_level look) cum (record { lsb = lsb; offset = offset; half = r.lines / 2 }) g.lines (m / 2) 0 0)
         (pairs_bits g.lines (m / 2) 0) front front' side side' c p o

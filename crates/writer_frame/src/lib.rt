@@ -10,12 +10,11 @@ ghost use Rattle.writer_steps.specs.Frames.{Writable, StreamsAre, Rest, RestIs, 
 use frame_answers::Fields;
 use frame_coder::Coder;
 use frame_pairs::PairSetting;
-use frame_residual::{Left, bits_left};
+use frame_residual::bits_left;
 use frame_settings::{Setting, rate_offset, tns_weighting};
-use widening::{wide, wide2};
 use writer_pairs::write_pairs;
 use writer_side::put_side;
-use writer_steps::{Cursor, FrameSent, PairsSent};
+use writer_steps::{Cursor, PairsSent};
 use writer_tns::write_filter;
 
 // Both streams up to the last pair, into room of zeros.
@@ -29,7 +28,7 @@ fn write_streams(
     bytes: usize,
     front: &mut [u8],
     side: &mut [u8],
-) -> PairsSent
+) -> Option<PairsSent>
     requires writable { Writable r bytes (given f first.now second.now lines.now bits.now) }
     requires front_value { front.old ≡ replicate 512 0 }
     requires side_value { side.old ≡ replicate 512 0 }
@@ -44,10 +43,26 @@ fn write_streams(
     let w = tns_weighting(r.duration, bytes);
     let p = put_side(r, f.side, side);
     let c = writer_stream::start(front);
-    let c1 = write_filter(&orders, &rows, w, wide(f.tns_order_0), first, c, front);
-    let c2 = write_filter(&orders, &rows, w, wide(f.tns_order_1), second, c1, front);
+    let c1 = write_filter(
+        &orders,
+        &rows,
+        w,
+        usize::from(f.tns_order_0),
+        first,
+        c,
+        front,
+    );
+    let c2 = write_filter(
+        &orders,
+        &rows,
+        w,
+        usize::from(f.tns_order_1),
+        second,
+        c1,
+        front,
+    );
     let o = PairSetting {
-        lsb: wide(h.lsb_mode),
+        lsb: usize::from(h.lsb_mode),
         offset: rate_offset(r.index, bytes),
         half: r.lines / 2,
     };
@@ -56,7 +71,7 @@ fn write_streams(
         &cum,
         o,
         lines,
-        wide2(h.last_line) / 2,
+        usize::from(h.last_line) / 2,
         bytes,
         c2,
         p,
@@ -93,24 +108,19 @@ pub fn write_fitting(
     lines: &[i32],
     bits: &[u8],
     frame: &mut [u8],
-) -> FrameSent
+) -> Option<usize>
     requires { Writable r (length frame.old) (given f first.now second.now lines.now bits.now) }
     ensures { FrameIs r (given f first.now second.now lines.now bits.now)
         frame.old frame.new result }
 {
     let n = frame.len();
-    let count = wide2(f.residual_bits);
     let mut front = [0u8; 512];
     let mut side = [0u8; 512];
-    match write_streams(r, f, first, second, lines, bits, n, &mut front, &mut side) {
-        PairsSent::TooSmall => FrameSent::TooSmall,
-        PairsSent::Sent(c, p) => match bits_left(n, p.at, c) {
-            Left::Cause(_) => FrameSent::TooSmall,
-            Left::Value(left) => {
-                let sent = if left < count { left } else { count };
-                write_rest(c, p, sent, bits, &mut front, &mut side, frame);
-                FrameSent::Sent(sent)
-            }
-        },
-    }
+    let ends = write_streams(r, f, first, second, lines, bits, n, &mut front, &mut side)?;
+    let left = bits_left(n, ends.side.at, ends.coder).ok()?;
+    let sent = left.min(usize::from(f.residual_bits));
+    write_rest(
+        ends.coder, ends.side, sent, bits, &mut front, &mut side, frame,
+    );
+    Some(sent)
 }

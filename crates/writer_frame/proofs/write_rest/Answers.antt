@@ -1,5 +1,7 @@
 -- `writer_frame::write_rest` meets its contract. Both streams are ended and joined. Assumes nothing.
 use native.Mathlib.Omega.{arith}
+use Rattle.std.proofs.Common.{rules}
+use Rattle.laws.specs.Tab.{Below}
 use Rattle.writer_frame.proofs.Resting.{bits_most, rest-apart, rest-is}
 use Rattle.writer_frame.proofs.write_rest.Goals as goal
 
@@ -28,10 +30,11 @@ end-requires c = let a = c.requires.sends.at in
     }
 
 pub join-requires : goal.join-requires
-join-requires c = let a =
+join-requires c =
+    let bytes : Below 256 c.end.new.front = search rules in
+    let a =
     rest-apart c.requires _ _ c.close.new.side _ c.put_bits-q.ensures.puts c.put_bits-q.ensures.at_value c.close.ensures.closes
-    c.end.ensures.front_after
-    (λ i. (c.slice_known-6-1.given i).fits) in
+    c.end.ensures.front_after bytes in
     record {
       front_len = c.end.ensures.front_len;
       side_len = c.close.ensures.side_len;
@@ -41,6 +44,6 @@ join-requires c = let a =
 
 pub returns : goal.returns
 returns c =
+    let bytes : Below 256 c.end.new.front = search rules in
     rest-is c.requires _ _ c.close.new.side _ c.put_bits-q.ensures.puts c.put_bits-q.ensures.at_value c.close.ensures.closes
-    c.end.ensures.front_after
-    (λ i. (c.slice_known-6-1.given i).fits) _ c.join.ensures
+    c.end.ensures.front_after bytes _ c.join.ensures

@@ -1,54 +1,37 @@
 -- `writer_frame::write_streams` meets its contract. The side information, both filters, and the pairs. Assumes nothing.
-use mathlib.Core.Path.{◌≡◌, sym, ap, ◌∙◌}
+use mathlib.Core.Path.{sym, ap, ◌∙◌}
 use native.Mathlib.Omega.{arith}
 use lib.ListN.{length}
 use Rattle.coder_tables.proofs.Rules.{spectrum-length, order-length, coefficient-length}
-use Rattle.frame_coder.specs.declared.Coder.{Coder}
-use Rattle.frame_tns.specs.Sound.{TnsTables}
-use Rattle.frame_pair.specs.Sound.{PairTables}
 use Rattle.writer_laws.specs.Writing.{Given, given}
-use Rattle.writer_frame.proofs.Asked.{Asked, asked}
-use Rattle.writer_frame.proofs.Streaming.{tns-tables, pair-tables, filtered-is, sends-filtered, streams-are}
+use Rattle.writer_frame.proofs.Asked.{asked}
+use Rattle.writer_frame.proofs.Streaming.{tns-tables, pair-tables, start-counts, filtered-is, sends-filtered, streams-are}
 use Rattle.writer_frame.proofs.write_streams.Goals as goal
 
 pub put_side-p-requires : goal.put_side-p-requires
 put_side-p-requires c =
-    let whole : Given =
-    given c.args.f c.args.first.now c.args.second.now c.args.lines.now c.args.bits.now in
-    let facts : Asked c.args.r whole =
-    asked c.args.r c.args.bytes whole c.requires.writable in
+    let a = asked c.requires.writable in
     record {
       known = c.requires.writable.known;
-      v_value = facts.side;
+      v_value = a.side;
       side_value = c.requires.side_value;
     }
 
 pub write_filter-c1-requires : goal.write_filter-c1-requires
 write_filter-c1-requires c =
-    let whole : Given =
-    given c.args.f c.args.first.now c.args.second.now c.args.lines.now c.args.bits.now in
-    let facts : Asked c.args.r whole =
-    asked c.args.r c.args.bytes whole c.requires.writable in
-    let tns : TnsTables c.tns_order-orders.result c.tns_coefficients-rows.result =
-    tns-tables _ _ c.tns_order-orders.ensures c.tns_coefficients-rows.ensures in
-    let counts : (c.start-c.result.at ≡ 3) × (c.start-c.result.taken ≡ 0) =
-    let e = c.start-c.ensures.result_value in
-    (ap (λ (c : Coder). c.at) e, ap (λ (c : Coder). c.taken) e) in
-    let a = facts in
-    let e = c.wide.ensures.value in
+    let a = asked c.requires.writable in
+    let n = start-counts _ c.start-c.ensures.result_value in
+    let e = c.from.ensures in
     let m = a.order0 in
-    let n = counts in
     let n0 = n.0 in
     let n1 = n.1 in
-    let w = c.tns_weighting-w.ensures.upper_bound in
-    let flows = c.start-c.ensures.flows in
     record {
-      tns_tables = tns;
-      w_bound = w;
+      tns_tables = tns-tables _ _ c.tns_order-orders.ensures c.tns_coefficients-rows.ensures;
+      w_bound = c.tns_weighting-w.ensures.upper_bound;
       order_bound = omega arith;
       l_len = c.requires.writable.first;
       sendable = (λ k h. a.first k (omega arith));
-      flows = flows;
+      flows = c.start-c.ensures.flows;
       at_bound = omega arith;
       taken_bound = omega arith;
     }
@@ -63,32 +46,21 @@ slice_bounds-write_filter-end-4 c =
 
 pub write_filter-c2-requires : goal.write_filter-c2-requires
 write_filter-c2-requires c =
-    let whole : Given =
-    given c.args.f c.args.first.now c.args.second.now c.args.lines.now c.args.bits.now in
-    let facts : Asked c.args.r whole =
-    asked c.args.r c.args.bytes whole c.requires.writable in
-    let tns : TnsTables c.tns_order-orders.result c.tns_coefficients-rows.result =
-    tns-tables _ _ c.tns_order-orders.ensures c.tns_coefficients-rows.ensures in
-    let counts : (c.start-c.result.at ≡ 3) × (c.start-c.result.taken ≡ 0) =
-    let e = c.start-c.ensures.result_value in
-    (ap (λ (c : Coder). c.at) e, ap (λ (c : Coder). c.taken) e) in
-    let a = facts in
-    let e = c.wide-2.ensures.value in
+    let a = asked c.requires.writable in
+    let n = start-counts _ c.start-c.ensures.result_value in
+    let e = c.from-2.ensures in
     let m = a.order1 in
-    let n = counts in
     let n0 = n.0 in
     let n1 = n.1 in
     let more0 = c.write_filter-c1.ensures.within.at in
     let more1 = c.write_filter-c1.ensures.within.taken in
-    let w = c.tns_weighting-w.ensures.upper_bound in
-    let flows = c.write_filter-c1.ensures.flows_2 in
     record {
-      tns_tables = tns;
-      w_bound = w;
+      tns_tables = tns-tables _ _ c.tns_order-orders.ensures c.tns_coefficients-rows.ensures;
+      w_bound = c.tns_weighting-w.ensures.upper_bound;
       order_bound = omega arith;
       l_len = c.requires.writable.second;
       sendable = (λ k h. a.second k (omega arith));
-      flows = flows;
+      flows = c.write_filter-c1.ensures.flows_2;
       at_bound = omega arith;
       taken_bound = omega arith;
     }
@@ -101,9 +73,7 @@ rate_offset-requires c = record {
 
 pub slice_bounds-write_pairs-end : goal.slice_bounds-write_pairs-end
 slice_bounds-write_pairs-end c =
-    let pairs : PairTables c.lookup-look.result c.spectrum-cum.result =
-    pair-tables _ _ c.lookup-look.ensures c.spectrum-cum.ensures in
-    sym pairs.looks
+    sym (pair-tables _ _ c.lookup-look.ensures c.spectrum-cum.ensures).looks
 
 pub slice_bounds-write_pairs-end-2 : goal.slice_bounds-write_pairs-end-2
 slice_bounds-write_pairs-end-2 c =
@@ -111,26 +81,19 @@ slice_bounds-write_pairs-end-2 c =
 
 pub write_pairs-requires : goal.write_pairs-requires
 write_pairs-requires c =
-    let whole : Given =
-    given c.args.f c.args.first.now c.args.second.now c.args.lines.now c.args.bits.now in
-    let facts : Asked c.args.r whole =
-    asked c.args.r c.args.bytes whole c.requires.writable in
-    let pairs : PairTables c.lookup-look.result c.spectrum-cum.result =
-    pair-tables _ _ c.lookup-look.ensures c.spectrum-cum.ensures in
-    let counts : (c.start-c.result.at ≡ 3) × (c.start-c.result.taken ≡ 0) =
-    let e = c.start-c.ensures.result_value in
-    (ap (λ (c : Coder). c.at) e, ap (λ (c : Coder). c.taken) e) in
-    let a = facts in
+    let a = asked c.requires.writable in
+    let n = start-counts _ c.start-c.ensures.result_value in
     let m0 = a.some in
     let m1 = a.most in
     let m2 = a.inside in
-    let n = counts in
+    let whole : Given =
+    given c.args.f c.args.first.now c.args.second.now c.args.lines.now c.args.bits.now in
     let sends =
     sends-filtered c.args.r c.args.bytes whole _ _ _ _ _ _ c.write_filter-c2.ensures.flows_2 c.put_side-p.ensures.fact
     c.put_side-p.ensures.at_bound n.0 n.1
     c.write_filter-c1.ensures.within c.write_filter-c2.ensures.within in
     record {
-      pair_tables = pairs;
+      pair_tables = pair-tables _ _ c.lookup-look.ensures c.spectrum-cum.ensures;
       offset_bound = c.rate_offset.ensures.upper_bound;
       le_n = omega arith;
       n_bound = omega arith;
@@ -146,8 +109,8 @@ returns c =
     given c.args.f c.args.first.now c.args.second.now c.args.lines.now c.args.bits.now in
     let e =
     filtered-is c.args.r c.args.bytes whole _ _ _ _ _ _ _ _ c.tns_order-orders.ensures
-    c.tns_coefficients-rows.ensures c.tns_weighting-w.ensures.value c.wide.ensures.value
-    c.wide-2.ensures.value c.start-c.ensures.result_value c.write_filter-c1.ensures.result_after c.write_filter-c2.ensures.result_after in
+    c.tns_coefficients-rows.ensures c.tns_weighting-w.ensures.value c.from.ensures
+    c.from-2.ensures c.start-c.ensures.result_value c.write_filter-c1.ensures.result_after c.write_filter-c2.ensures.result_after in
     streams-are c.args.r c.args.bytes whole _ c.write_pairs.new.front _ c.write_pairs.new.side _ _ e c.put_side-p.ensures.kept _ _ _ _ _
-    c.write_pairs.result c.lookup-look.ensures c.spectrum-cum.ensures c.wide-3.ensures.value c.rate_offset.ensures.value
-    c.wide2.ensures c.write_pairs.ensures
+    c.write_pairs.result c.lookup-look.ensures c.spectrum-cum.ensures c.from-3.ensures c.rate_offset.ensures.value
+    c.from-4.ensures c.write_pairs.ensures
