@@ -93,26 +93,9 @@ pub fn read_clean(size: usize, mode: usize, places: &[u8], message: &mut [u8]) -
     ensures fact_2 { Data size mode message.new }
     ensures all_clean { result ≡ true → AllClean size mode places.now message.new (words size) }
 {
-    let rows = code_word::check_rows(mode as u32);
-    read_clean_with(size, mode, places, &rows, message)
-}
-
-// The same with the rows of the check semi-octets made before, which every word of the slot shares.
-pub fn read_clean_with(
-    size: usize,
-    mode: usize,
-    places: &[u8],
-    rows: &[u32; 208],
-    message: &mut [u8],
-) -> bool
-    requires semi_octets_of { SemiOctetsOf size mode places.now }
-    requires rows_value { rows.now ≡ check_rows (distance mode - 1) }
-    requires fact { Data size mode message.old }
-    ensures fact_2 { Data size mode message.new }
-    ensures all_clean { result ≡ true → AllClean size mode places.now message.new (words size) }
-{
     let count = slot_sizes::word_count(size);
     let checks = code_word_settings::distance(mode) - 1;
+    let rows = code_word::check_rows(mode as u32);
     let mut at = 0;
     for i in 0..count {
         let e = at + (slot_sizes::word_length(size, count, i) - checks);

@@ -132,7 +132,7 @@ pub fn write_slot(size: usize, mode: usize, message: &[u8], slot: &mut [u8])
     let mut at = 0;
     for i in 0..count {
         let e = at + (slot_sizes::word_length(size, count, i) - checks);
-        place_word(size, mode, i, &message[at..e], &rows, &mut places);
+        place_word(size, mode, i, &message[at..e], rows, &mut places);
         at = e;
     }
     pack_bytes(&places, slot);

@@ -1,11 +1,11 @@
--- `slot_clean::read_clean_with` meets its contract. The loop has the data of the first words where they belong, each under its own word.
+-- `slot_clean::read_clean` meets its contract. The loop has the data of the first words where they belong, each under its own word.
 -- Assumes nothing.
 use Prim.Native.Nat.{◌-◌, ◌+◌}
 use native.Mathlib.Omega.{arith}
 use Rattle.slot_laws.proofs.RoomSteps.{WordPart, word-part, start_first, next_start, before-end, end-few, room-is}
 use Rattle.slot_clean.proofs.CleanSteps.{clean-first, clean-data, clean-next}
-use Rattle.slot_clean.proofs.read_clean_with.Goals as goal
-use Rattle.slot_clean.proofs.read_clean_with.Goals.{After-word_length}
+use Rattle.slot_clean.proofs.read_clean.Goals as goal
+use Rattle.slot_clean.proofs.read_clean.Goals.{After-word_length}
 
 pub loop-i-init : goal.loop-i-init
 loop-i-init c =
@@ -32,7 +32,7 @@ read_clean_word-requires-clause-with_rows c =
       range = p.range;
       word_below = p.inside;
       message_long = room-is p;
-      rows_are = c.requires.rows_value;
+      rows_are = c.check_rows-rows.ensures.inside p.range.mode_from p.range.mode_to;
       places_long = c.requires.semi_octets_of.long;
     }
 
