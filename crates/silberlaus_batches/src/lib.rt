@@ -1,4 +1,4 @@
-// Unprotecting many slots with document 01's number in place of the enum answer. It stands over `slot_batch`.
+// Unprotecting many slots with document 01's number in place of the `Result`. It stands over `slot_batch`.
 // Inner: `silberlaus` stands over it. It asks nothing.
 #![tactic(auto)]
 
@@ -19,5 +19,7 @@ pub fn unprotect_each(
         (five numbers.old requests.old counts.old bits.old frames.old)
         (five numbers.new requests.new counts.new bits.new frames.new) result }
 {
-    slot_batch::unprotect_each(size, mode, slots, numbers, requests, counts, bits, frames).number()
+    refusals::numbered(slot_batch::unprotect_each(
+        size, mode, slots, numbers, requests, counts, bits, frames,
+    ))
 }

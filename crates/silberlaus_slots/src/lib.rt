@@ -1,4 +1,4 @@
-// Protecting and unprotecting with document 01's numbers and C's struct in place of the enum answers. It stands over `slot`.
+// Protecting and unprotecting with document 01's numbers and C's struct in place of the `Result`. It stands over `slot`.
 // Inner: `silberlaus` stands over it. It asks nothing.
 #![tactic(auto)]
 
@@ -6,8 +6,6 @@ ghost use Rattle.std.specs.Prelude.{◌≡◌};
 ghost use Rattle.slot_protection.specs.Protect.{Protects};
 ghost use Rattle.slot.specs.Unprotect.{Recordable, Unprotects};
 ghost use Rattle.silberlaus_slots.specs.Told.{told_of};
-
-use slot::Reception;
 
 // C's silberlaus_unprotected.
 #[repr(C)]
@@ -23,7 +21,7 @@ pub struct SilberlausUnprotected {
 pub fn protect(size: usize, mode: u32, request: u32, frame: &[u8], sent: &mut [u8]) -> u8
     ensures { Protects size mode request frame.now sent.old sent.new result }
 {
-    slot::protect(size, mode, request, frame, sent).number()
+    refusals::numbered(slot::protect(size, mode, request, frame, sent))
 }
 
 // A refusal: its number, and zero in every other field.
@@ -44,15 +42,12 @@ pub fn unprotect(size: usize, mode: u32, received: &[u8], frame: &mut [u8]) -> S
     ensures recordable { Recordable (told_of result) frame.new }
 {
     match slot::unprotect(size, mode, received, frame) {
-        Reception::Accepted(q, n, b) => SilberlausUnprotected {
+        Ok(found) => SilberlausUnprotected {
             number: 0,
-            request: q,
-            semi_octets: n,
-            bits: b,
+            request: found.request,
+            semi_octets: found.count,
+            bits: found.bits,
         },
-        Reception::Setting => refused(1),
-        Reception::Length => refused(2),
-        Reception::Beyond => refused(3),
-        Reception::Foreign => refused(4),
+        Err(why) => refused(why.number()),
     }
 }

@@ -8,6 +8,9 @@ use native.Mathlib.Omega.{arith}
 use lib.ListN.{take}
 use lib.Seq.{length-take-le}
 use Rattle.laws.proofs.Tab.{below-take}
+use Rattle.std.specs.Prelude.{Result, Ok, Err}
+use Rattle.refusals.specs.declared.Refusal.{Refusal}
+use Rattle.refusals.specs.declared.Refusal.TheVariants as refusal
 use Rattle.slot_laws.specs.Sizes.{words, frame_size, data_size}
 use Rattle.slot_laws.specs.Order.{request_swapped, Data}
 use Rattle.slot_laws.specs.Slot.{slot_with}
@@ -15,7 +18,6 @@ use Rattle.slot_protection.specs.Protect.{Protects}
 use Rattle.slot_laws.specs.Corrected.{Corrected, SomeBeyond}
 use Rattle.slot_answers.specs.Answers.{Told, accepted_with, refused_with, told_of}
 use Rattle.slot_answers.specs.declared.Reception.{Reception}
-use Rattle.slot_answers.specs.declared.Reception.TheVariants.{Accepted, Setting, Length, Beyond, Foreign}
 use Rattle.slot.specs.Unprotect.{Taken, Unprotects}
 use Rattle.slot.specs.Demand.{Carried}
 use Rattle.slot_laws.specs.Back.{rolled, request_in, rest_in, Matches, request_of, frame_of}
@@ -69,13 +71,18 @@ module _ (size mode : ℕ) (slot old new message : List ℕ) (count bits : ℕ) 
       (accepts size mode slot old (slot_with size mode message) taken slot-corrected (rw hashes d.written.matching))
 
   -- the answer for the slot's data is the slot's
-  pub answered : (r : Reception) → IsAnswered size mode message count bits old new r → Unprotects size mode slot old new (told_of r)
-  answered (Accepted q n b) d = accepted-answer q n b d
-  answered Setting d = absurd d
-  answered Length d = absurd d
-  answered Beyond d = absurd d
-  answered Foreign d =
+  pub answered : (r : Result Reception Refusal) → IsAnswered size mode message count bits old new r
+      → Unprotects size mode slot old new (told_of r)
+  answered (Ok r) d = accepted-answer r.request r.count r.bits d
+  answered (Err refusal.Setting) d = absurd d
+  answered (Err refusal.Length) d = absurd d
+  answered (Err refusal.Beyond) d = absurd d
+  answered (Err refusal.Foreign) d =
       rw d.kept (refuses size mode slot old (slot_with size mode message) taken slot-corrected (rw hashes d.foreign))
+  answered (Err (refusal.BitError why)) d = absurd d
+  answered (Err refusal.NoRoom) d = absurd d
+  answered (Err refusal.NotRecord) d = absurd d
+  answered (Err refusal.TooSmall) d = absurd d
 
 -- a word beyond repair
 pub beyond-answer : (size mode : ℕ) (slot old : List ℕ) → Taken size mode slot old → SomeBeyond size mode slot

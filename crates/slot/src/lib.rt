@@ -10,34 +10,42 @@ ghost use Rattle.slot.specs.Unprotect.{Unprotects, Recordable};
 ghost use Rattle.slot.specs.Inner.{Judgeable};
 ghost use Rattle.slot.specs.Demand.{Sends, Carried};
 
+pub use refusals::Refusal;
 pub use slot_answers::Reception;
-pub use slot_protection::{Protection, protect};
+pub use slot_protection::protect;
 use slot_repair::Outcome;
 pub use slot_sizes::frame_size;
 
 // What was received, by document 01's rule, the mode told.
-pub fn unprotect(size: usize, mode: u32, slot: &[u8], frame: &mut [u8]) -> Reception
+pub fn unprotect(
+    size: usize,
+    mode: u32,
+    slot: &[u8],
+    frame: &mut [u8],
+) -> Result<Reception, Refusal>
     ensures unprotects { Unprotects size mode slot.now frame.old frame.new (told_of result) }
     ensures recordable { Recordable (told_of result) frame.new }
 {
-    match size {
-        40..=400 => match mode {
-            2..=4 => unprotect_sized(size, mode as usize, slot, frame),
-            _ => Reception::Setting,
-        },
-        _ => Reception::Setting,
+    match (size, mode) {
+        (40..=400, 2..=4) => unprotect_sized(size, mode as usize, slot, frame),
+        _ => Err(Refusal::Setting),
     }
 }
 
-fn unprotect_sized(size: usize, mode: usize, slot: &[u8], frame: &mut [u8]) -> Reception
+fn unprotect_sized(
+    size: usize,
+    mode: usize,
+    slot: &[u8],
+    frame: &mut [u8],
+) -> Result<Reception, Refusal>
     requires { InRange size mode }
     ensures { Unprotects size mode slot.now frame.old frame.new (told_of result) }
 {
     if frame.len() != slot_sizes::frame_bytes(size, mode) {
-        return Reception::Length;
+        return Err(Refusal::Length);
     }
     if slot.len() != size {
-        return Reception::Length;
+        return Err(Refusal::Length);
     }
     let e = slot_sizes::data_size(size, mode);
     let mut message = [0u8; 800];
@@ -45,13 +53,19 @@ fn unprotect_sized(size: usize, mode: usize, slot: &[u8], frame: &mut [u8]) -> R
 }
 
 // Every word corrected, then the heading compared and the frame written; message is room for the data semi-octets.
-fn judge(size: usize, mode: usize, slot: &[u8], message: &mut [u8], frame: &mut [u8]) -> Reception
+fn judge(
+    size: usize,
+    mode: usize,
+    slot: &[u8],
+    message: &mut [u8],
+    frame: &mut [u8],
+) -> Result<Reception, Refusal>
     requires { Judgeable size mode slot.now message.old frame.old }
     ensures { Unprotects size mode slot.now frame.old frame.new (told_of result) }
 {
-    let Outcome::Repaired(count, bits) = slot_repair::correct_slot(size, mode, slot, message) else {
-        return Reception::Beyond;
-    };
+    let Outcome { count, bits } = slot_repair::correct_slot(size, mode, slot, message).ok_or(
+        Refusal::Beyond,
+    )?;
     slot_delivery::answer(size, mode, count, bits, message, frame)
 }
 
@@ -64,12 +78,12 @@ pub fn carry(
     sent: &mut [u8],
     slot: &[u8],
     out: &mut [u8],
-) -> Reception
+) -> Result<Reception, Refusal>
     ensures sends { Sends size mode request frame.now sent.old sent.new }
     ensures unprotects { Unprotects size mode slot.now out.old out.new (told_of result) }
     ensures carried { Carried size mode request frame.now sent.old sent.new
         slot.now out.old out.new (told_of result) }
 {
-    protect(size, mode, request, frame, sent);
+    let _ = protect(size, mode, request, frame, sent);
     unprotect(size, mode, slot, out)
 }

@@ -1,2 +1,2 @@
--- What the code of many slots asks: the six lengths compared.
+-- What the code of many slots asks: the frames fit.
 pub mod Lengths

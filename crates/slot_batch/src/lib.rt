@@ -4,31 +4,12 @@
 #![tactic(auto)]
 
 ghost use Rattle.std.specs.Prelude.{◌≡◌};
+ghost use Rattle.refusals.specs.Numbers.{number_of};
 ghost use Rattle.laws.specs.Decides.{Decides};
 ghost use Rattle.slot_laws.specs.Sizes.{InRange};
 ghost use Rattle.slot_each.specs.Each.{five, Fitting, UnprotectsEach};
-ghost use Rattle.slot_batch.specs.Answers.{receptions_number};
 
-// Whether the slots have their answers; document 01's 0, 1 and 2.
-#[derive(Clone, Copy)]
-pub enum Receptions {
-    Given,
-    Setting,
-    Length,
-}
-
-impl Receptions {
-    // Document 01's number.
-    pub fn number(self) -> u8
-        ensures { result ≡ receptions_number self }
-    {
-        match self {
-            Receptions::Given => 0,
-            Receptions::Setting => 1,
-            Receptions::Length => 2,
-        }
-    }
-}
+use refusals::Refusal;
 
 // Whether the six lengths fit.
 fn fits(
@@ -44,22 +25,12 @@ fn fits(
     requires { InRange size mode }
     ensures { Decides (Fitting size mode slots numbers requests counts bits frames) result }
 {
-    if slots / size != numbers {
-        return false;
-    }
-    if slots % size != 0 {
-        return false;
-    }
-    if requests != numbers {
-        return false;
-    }
-    if counts != numbers {
-        return false;
-    }
-    if bits != numbers {
-        return false;
-    }
-    frames == numbers * slot_sizes::frame_bytes(size, mode)
+    slots / size == numbers
+        && frames == numbers * slot_sizes::frame_bytes(size, mode)
+        && slots % size == 0
+        && requests == numbers
+        && counts == numbers
+        && bits == numbers
 }
 
 fn unprotect_sized(
@@ -71,12 +42,12 @@ fn unprotect_sized(
     counts: &mut [u16],
     bits: &mut [u16],
     frames: &mut [u8],
-) -> Receptions
+) -> Result<(), Refusal>
     requires { InRange size mode }
     ensures { UnprotectsEach size mode slots.now
         (five numbers.old requests.old counts.old bits.old frames.old)
         (five numbers.new requests.new counts.new bits.new frames.new)
-        (receptions_number result) }
+        (number_of result) }
 {
     if !fits(
         size,
@@ -88,10 +59,10 @@ fn unprotect_sized(
         bits.len(),
         frames.len(),
     ) {
-        return Receptions::Length;
+        return Err(Refusal::Length);
     }
     slot_room::unprotect_fitting(size, mode, slots, numbers, requests, counts, bits, frames);
-    Receptions::Given
+    Ok(())
 }
 
 // Whole slots of one size and mode: for each of them its number, its request and its counts in a buffer each, and its frame in its place.
@@ -104,15 +75,15 @@ pub fn unprotect_each(
     counts: &mut [u16],
     bits: &mut [u16],
     frames: &mut [u8],
-) -> Receptions
+) -> Result<(), Refusal>
     ensures { UnprotectsEach size mode slots.now
         (five numbers.old requests.old counts.old bits.old frames.old)
         (five numbers.new requests.new counts.new bits.new frames.new)
-        (receptions_number result) }
+        (number_of result) }
 {
-    match size {
-        40..=400 => match mode {
-            2..=4 => unprotect_sized(
+    match (size, mode) {
+        (40..=400, 2..=4) => {
+            unprotect_sized(
                 size,
                 mode as usize,
                 slots,
@@ -121,9 +92,8 @@ pub fn unprotect_each(
                 counts,
                 bits,
                 frames,
-            ),
-            _ => Receptions::Setting,
-        },
-        _ => Receptions::Setting,
+            )
+        }
+        _ => Err(Refusal::Setting),
     }
 }

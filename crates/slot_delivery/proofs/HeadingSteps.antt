@@ -1,15 +1,15 @@
 -- What the code that delivers a frame asks: two rows compared, the heading made anew beside the one that was sent, and the frame put
 -- together.
 -- Assumes nothing.
-use mathlib.Core.Path.{◌≡◌, refl, sym, ap, ap₂, ◌∙◌}
-use mathlib.Core.Bool.{Bool, true, false, true≢false}
+use mathlib.Core.Path.{◌≡◌, sym, ap, ap₂, ◌∙◌}
+use mathlib.Core.Bool.{Bool, true≢false}
 use mathlib.Core.List.{List, ◌++◌}
-use Prim.Native.Nat.{ℕ, ◌+◌, ◌*◌, ◌-◌, ◌/◌, ◌≤◌, ◌<◌}
+use Prim.Native.Nat.{ℕ, ◌+◌, ◌*◌, ◌-◌, ◌/◌, ◌≤◌}
 use native.Mathlib.Omega.{arith}
 use lib.Dec.{eqb}
+use lib.Pointwise.{pointwise, bytes_decides}
 use lib.ListN.{length, get_or, take, drop, length-drop}
 use lib.Seq.{take_all, take_at}
-use borrow.Author.Tests.{eqb-true, eqb-false}
 use Rattle.laws.specs.Decides.{Decides}
 use Rattle.laws.proofs.Fill.{Filled}
 use Rattle.slot_laws.specs.Sizes.{hash1, frame_size, heading_size}
@@ -27,19 +27,11 @@ rolled-is a n k frame h f = pack-is (λ p. get_or a (2 * n - 1 - p) 0) n k frame
 
 -- ---- two rows compared
 
-pub same_next : (a b : List ℕ) (i : ℕ) → ((k : ℕ) → k < i → get_or a k 0 ≡ get_or b k 0) → get_or a i 0 ≡ get_or b i 0
-    → (k : ℕ) → k < i + 1 → get_or a k 0 ≡ get_or b k 0
-same_next a b i h e k l = go (eqb k i) refl
-  where
-    go : (t : Bool) → eqb k i ≡ t → get_or a k 0 ≡ get_or b k 0
-    go true x = rw (eqb-true k i x) e
-    go false x = let d : (k ≡ i → ⊥) = eqb-false k i x in h k (omega arith)
-
-pub decided-yes : {P : Type 0} → P → Decides P true
-decided-yes p = record { holds = λ e. p; fails = λ e q. true≢false e }
-
-pub decided-no : {P : Type 0} → (P → ⊥) → Decides P false
-decided-no n = record { holds = λ e. absurd (true≢false (sym e)); fails = λ e. n }
+-- what the comparison tells
+pub rows-told : (a b : List ℕ) {r : Bool} → r ≡ pointwise eqb a b → Decides (a ≡ b) r
+rows-told a b e =
+    let d = bytes_decides a b in
+    record { holds = λ t. d.0 (sym e ∙ t); fails = λ f p. true≢false (sym (d.1 p) ∙ sym e ∙ f) }
 
 decides-as : {P Q : Type 0} {r : Bool} → (P → Q) → (Q → P) → Decides P r → Decides Q r
 decides-as f g d = record { holds = λ e. f (d.holds e); fails = λ e q. d.fails e (g q) }

@@ -1,12 +1,13 @@
 -- What the functions of this crate ask and promise one another and those over them: no part of what is right of a slot.
 -- Assumes nothing.
-use Rattle.std.specs.Prelude.{◌≡◌, Bool, true, false, List, ℕ, ◌*◌, ◌≤◌, length}
+use Rattle.std.specs.Prelude.{◌≡◌, Bool, true, false, List, ℕ, ◌*◌, ◌≤◌, length, Result, Ok, Err}
 use Rattle.laws.specs.Tab.{Below}
+use Rattle.refusals.specs.declared.Refusal.{Refusal}
+use Rattle.refusals.specs.declared.Refusal.TheVariants as refusal
 use Rattle.slot_laws.specs.Sizes.{InRange, frame_size}
 use Rattle.slot_laws.specs.Order.{request_swapped, Data}
 use Rattle.slot_laws.specs.Back.{rolled, request_in, rest_in, Matches}
 use Rattle.slot_answers.specs.declared.Reception.{Reception}
-use Rattle.slot_answers.specs.declared.Reception.TheVariants.{Accepted, Setting, Length, Beyond, Foreign}
 
 -- the data of a slot in order, and the request that they carry
 pub record Carries (size mode q : ℕ) (message : List ℕ) : Type 0 where
@@ -42,10 +43,14 @@ pub record AcceptedFrom (size mode : ℕ) (order : List ℕ) (count bits : ℕ) 
   pub written : IsWritten size mode order new
 
 -- the answer for data with these counts, from the data in order
-abbrev pub IsAnswered : ℕ → ℕ → List ℕ → ℕ → ℕ → List ℕ → List ℕ → Reception → Type 0
-IsAnswered size mode message count bits old new (Accepted q n b) =
-    AcceptedFrom size mode (request_swapped size mode message) count bits new q n b
-IsAnswered size mode message count bits old new Setting = ⊥
-IsAnswered size mode message count bits old new Length = ⊥
-IsAnswered size mode message count bits old new Beyond = ⊥
-IsAnswered size mode message count bits old new Foreign = IsKept size mode (request_swapped size mode message) old new
+abbrev pub IsAnswered : ℕ → ℕ → List ℕ → ℕ → ℕ → List ℕ → List ℕ → Result Reception Refusal → Type 0
+IsAnswered size mode message count bits old new (Ok r) =
+    AcceptedFrom size mode (request_swapped size mode message) count bits new r.request r.count r.bits
+IsAnswered size mode message count bits old new (Err refusal.Setting) = ⊥
+IsAnswered size mode message count bits old new (Err refusal.Length) = ⊥
+IsAnswered size mode message count bits old new (Err refusal.Beyond) = ⊥
+IsAnswered size mode message count bits old new (Err refusal.Foreign) = IsKept size mode (request_swapped size mode message) old new
+IsAnswered size mode message count bits old new (Err (refusal.BitError why)) = ⊥
+IsAnswered size mode message count bits old new (Err refusal.NoRoom) = ⊥
+IsAnswered size mode message count bits old new (Err refusal.NotRecord) = ⊥
+IsAnswered size mode message count bits old new (Err refusal.TooSmall) = ⊥

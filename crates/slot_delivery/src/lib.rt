@@ -10,22 +10,8 @@ ghost use Rattle.slot_laws.specs.Order.{Data};
 ghost use Rattle.slot_laws.specs.Sizes.{InRange, frame_size};
 ghost use Rattle.slot_delivery.specs.Inner.{Carries, FrameRoom, IsDelivered, IsAnswered};
 
+use refusals::Refusal;
 use slot_answers::Reception;
-
-// Whether two rows of one length are the same.
-fn same(a: &[u8], b: &[u8]) -> bool
-    requires { length a.now ≡ length b.now }
-    ensures { Decides (a.now ≡ b.now) result }
-{
-    let mut i: usize = 0;
-    while i < a.len() {
-        if a[i] != b[i] {
-            return false;
-        }
-        i = i + 1;
-    }
-    true
-}
 
 // Whether the heading is the one that the request and the frame's semi-octets make.
 pub fn matches(size: usize, mode: usize, request: u32, message: &[u8]) -> bool
@@ -35,7 +21,7 @@ pub fn matches(size: usize, mode: usize, request: u32, message: &[u8]) -> bool
     let h = slot_sizes::heading_size(size, mode);
     let mut head = [0u8; 10];
     slot_ordering::put_heading(size, mode, request, &message[h..], &mut head[..h]);
-    same(&head[..h], &message[..h])
+    head[..h] == message[..h]
 }
 
 // The frame of its semi-octets.
@@ -44,10 +30,8 @@ pub fn roll(a: &[u8], frame: &mut [u8])
     ensures { frame.new ≡ rolled (length frame.old) a.now }
 {
     let n = frame.len();
-    let mut j: usize = 0;
-    while j < n {
-        frame[j] = a[2 * n - 1 - 2 * j] + 16 * a[2 * n - 1 - (2 * j + 1)];
-        j = j + 1;
+    for (j, x) in frame.iter_mut().enumerate() {
+        *x = a[2 * n - 1 - 2 * j] + 16 * a[2 * n - 1 - (2 * j + 1)];
     }
 }
 
@@ -74,7 +58,7 @@ pub fn answer(
     bits: u16,
     message: &mut [u8],
     frame: &mut [u8],
-) -> Reception
+) -> Result<Reception, Refusal>
     requires in_range { InRange size mode }
     requires fact { Data size mode message.old }
     requires frame_len { length frame.old ≡ frame_size size mode }
@@ -84,8 +68,12 @@ pub fn answer(
     slot_ordering::swap_request(size, mode, message);
     let at = 2 * slot_sizes::first_hash_size(size) - 1;
     let request = message[at] / 4;
-    if !deliver(size, mode, request as u32, message, frame) {
-        return Reception::Foreign;
+    if !deliver(size, mode, u32::from(request), message, frame) {
+        return Err(Refusal::Foreign);
     }
-    Reception::Accepted(request, count, bits)
+    Ok(Reception {
+        request,
+        count,
+        bits,
+    })
 }

@@ -11,7 +11,12 @@ use lib.Seq.{length-take-le, take_at, drop_at, drop-drop, take-append-le, drop-a
 use borrow.Author.Tests.{eqb-true, eqb-false}
 use borrow.Rule.Slice.PartMut.{mid_of, put_mid, same_len_mid, drop_put}
 use Rattle.slot_laws.specs.Sizes.{InRange, frame_size}
-use Rattle.slot_answers.specs.Answers.{Told}
+use Rattle.std.specs.Prelude.{Result, Ok, Err}
+use Rattle.std.specs.Result.{result_unwrap_or}
+use Rattle.refusals.specs.declared.Refusal.{Refusal}
+use Rattle.refusals.specs.Numbers.{number_of}
+use Rattle.slot_answers.specs.declared.Reception.{Reception}
+use Rattle.slot_answers.specs.Answers.{Told, told_of}
 use Rattle.slot.specs.Unprotect.{Unprotects}
 use Rattle.slot.proofs.Rule.{told_same}
 use Rattle.slot_each.specs.Each.{Five, five, place_at, told_at, Fits, UnprotectsAt, IsGiven}
@@ -84,17 +89,32 @@ module _ {n i at e many : ℕ} (part : PlacePart n i at e many) where
 
 -- ---- the turns
 
-pub each_first : (size mode : ℕ) (slots : List ℕ) (old : Five) → Fits size mode slots old → EachTo size mode 0 slots old old
-each_first size mode slots old f = record { left = f; as_many = refl; each = λ j l. absurd (omega arith); rest = refl }
+-- the number and what is told beside it are the answer's: zeros where it is refused
+pub record Tells (number : ℕ) (told : Reception) (answer : Told) : Type 0 where
+  pub number_is : number ≡ answer.number
+  pub request : told.request ≡ answer.request
+  pub count : told.count ≡ answer.count
+  pub bits : told.bits ≡ answer.bits
 
-pub frames-kept : (size mode n : ℕ) (slots : List ℕ) (old new : Five) → Fits size mode slots old → EachTo size mode n slots old new
-    → length new.frames ≡ length old.frames
-frames-kept size mode n slots old new f e =
-    e.left.frames_fit ∙ ap (λ (x : ℕ). x * frame_size size mode) e.as_many ∙ sym f.frames_fit
+pub tells : (r : Result Reception Refusal) (number : ℕ) (told : Reception) → number ≡ number_of r
+    → told ≡ result_unwrap_or r (record { request = 0; count = 0; bits = 0 }) → Tells number told (told_of r)
+tells (Ok found) number told n e = record {
+  number_is = n;
+  request = ap (λ (t : Reception). t.request) e;
+  count = ap (λ (t : Reception). t.count) e;
+  bits = ap (λ (t : Reception). t.bits) e;
+}
+tells (Err why) number told n e = record {
+  number_is = n;
+  request = ap (λ (t : Reception). t.request) e;
+  count = ap (λ (t : Reception). t.count) e;
+  bits = ap (λ (t : Reception). t.bits) e;
+}
 
 -- the five buffers after a turn
-abbrev pub turned : Five → ℕ → ℕ → ℕ → ℕ → ℕ → List ℕ → Five
-turned b i v1 v2 v3 v4 frames = five (set b.numbers i v1) (set b.requests i v2) (set b.counts i v3) (set b.bits i v4) frames
+abbrev pub turned : Five → ℕ → ℕ → Reception → List ℕ → Five
+turned b i number told frames =
+    five (set b.numbers i number) (set b.requests i told.request) (set b.counts i told.count) (set b.bits i told.bits) frames
 
 -- an entry that is written, and the others
 entry_here : (l : List ℕ) (i v w n : ℕ) → length l ≡ n → i < n → v ≡ w → get_or (set l i v) i 0 ≡ w
@@ -102,11 +122,10 @@ entry_here l i v w n e h k = get_or-set_same l i v 0 (omega arith) ∙ k
 
 module _ (size mode i at e : ℕ) (slots : List ℕ) (old new : Five) (so_far : EachTo size mode i slots old new)
     (part : PlacePart (frame_size size mode) i at e (length new.numbers)) (last : List ℕ) (last-long : length last ≡ frame_size size mode)
-    (answer : Told) (v1 v2 v3 v4 : ℕ) (e1 : v1 ≡ answer.number) (e2 : v2 ≡ answer.request) (e3 : v3 ≡ answer.count)
-    (e4 : v4 ≡ answer.bits) (slot place : List ℕ) (slot_is : slot ≡ place_at size i slots)
+    (answer : Told) (number : ℕ) (told : Reception) (told_is : Tells number told answer) (slot place : List ℕ) (slot_is : slot ≡ place_at size i slots)
     (place_is : place ≡ place_at (frame_size size mode) i new.frames) (unprotects : Unprotects size mode slot place last answer) where
   abbrev after : Five
-  after = turned new i v1 v2 v3 v4 (put_mid at (e - at) new.frames last)
+  after = turned new i number told (put_mid at (e - at) new.frames last)
 
   abbrev f : ℕ
   f = frame_size size mode
@@ -117,16 +136,16 @@ module _ (size mode i at e : ℕ) (slots : List ℕ) (old new : Five) (so_far : 
   told_here : told_at after i ≡ answer
   told_here =
       told_same (told_at after i) answer
-      (entry_here new.numbers i v1 _ _ refl part.inside e1)
-      (entry_here new.requests i v2 _ _ fit.requests_fit part.inside e2)
-      (entry_here new.counts i v3 _ _ fit.counts_fit part.inside e3)
-      (entry_here new.bits i v4 _ _ fit.bits_fit part.inside e4)
+      (entry_here new.numbers i number _ _ refl part.inside told_is.number_is)
+      (entry_here new.requests i told.request _ _ fit.requests_fit part.inside told_is.request)
+      (entry_here new.counts i told.count _ _ fit.counts_fit part.inside told_is.count)
+      (entry_here new.bits i told.bits _ _ fit.bits_fit part.inside told_is.bits)
 
   told-before : (j : ℕ) → (j ≡ i → ⊥) → told_at after j ≡ told_at new j
   told-before j d =
       told_same (told_at after j) (told_at new j)
-      (get_or-set_other new.numbers i j v1 0 d) (get_or-set_other new.requests i j v2 0 d)
-      (get_or-set_other new.counts i j v3 0 d) (get_or-set_other new.bits i j v4 0 d)
+      (get_or-set_other new.numbers i j number 0 d) (get_or-set_other new.requests i j told.request 0 d)
+      (get_or-set_other new.counts i j told.count 0 d) (get_or-set_other new.bits i j told.bits 0 d)
 
   -- this frame's place is still as lent
   as_lent : place_at f i new.frames ≡ place_at f i old.frames
@@ -151,14 +170,14 @@ module _ (size mode i at e : ℕ) (slots : List ℕ) (old new : Five) (so_far : 
       (so_far.each j l))
 
   as_many : length after.numbers ≡ length new.numbers
-  as_many = length-set new.numbers i v1
+  as_many = length-set new.numbers i number
 
   fit-after : Fits size mode slots after
   fit-after = record {
     slots_fit = fit.slots_fit ∙ ap (λ (x : ℕ). x * size) (sym as_many);
-    requests_fit = length-set new.requests i v2 ∙ fit.requests_fit ∙ sym as_many;
-    counts_fit = length-set new.counts i v3 ∙ fit.counts_fit ∙ sym as_many;
-    bits_fit = length-set new.bits i v4 ∙ fit.bits_fit ∙ sym as_many;
+    requests_fit = length-set new.requests i told.request ∙ fit.requests_fit ∙ sym as_many;
+    counts_fit = length-set new.counts i told.count ∙ fit.counts_fit ∙ sym as_many;
+    bits_fit = length-set new.bits i told.bits ∙ fit.bits_fit ∙ sym as_many;
     frames_fit =
         put-long part new.frames fit.frames_fit last last-long ∙ fit.frames_fit ∙ ap (λ (x : ℕ). x * f) (sym as_many);
   }

@@ -7,6 +7,8 @@ ghost use Rattle.slot_judging.specs.Inner.{Lent};
 ghost use Rattle.slot_each.specs.Each.{five, Fits};
 ghost use Rattle.slot_each.specs.Inner.{EachTo};
 
+use slot_answers::Reception;
+
 // Every slot's answer and frame, with the tables and the room for all of them.
 pub fn each(
     size: usize,
@@ -34,8 +36,7 @@ pub fn each(
     let long = slot_sizes::frame_bytes(size, mode);
     let mut at: usize = 0;
     let mut put: usize = 0;
-    let mut i: usize = 0;
-    while i < numbers.len() {
+    for i in 0..numbers.len() {
         let end = at + size;
         let stop = put + long;
         let answer = slot_judging::judge(
@@ -51,12 +52,12 @@ pub fn each(
             message,
             &mut frames[put..stop],
         );
-        numbers[i] = answer.number();
-        requests[i] = answer.request();
-        counts[i] = answer.count();
-        bits[i] = answer.bits();
+        numbers[i] = refusals::numbered(answer);
+        let told = answer.unwrap_or(Reception::NONE);
+        requests[i] = told.request;
+        counts[i] = told.count;
+        bits[i] = told.bits;
         at = end;
         put = stop;
-        i = i + 1;
     }
 }

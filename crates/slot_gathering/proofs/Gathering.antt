@@ -10,7 +10,7 @@ use lib.Dec.{eqb}
 use lib.ListN.{length, get_or, take, drop, length-drop}
 use lib.Seq.{drop-drop}
 use borrow.Author.Tests.{eqb-true, eqb-false}
-use borrow.Rule.Slice.PartMut.{mid_of, put_mid}
+use borrow.Rule.Slice.PartMut.{put_mid}
 use Rattle.laws.specs.Tab.{total, Below}
 use Rattle.laws.proofs.Tab.{total-next, total-none, total-up, below-drop}
 use Rattle.code_word_laws.specs.Word.{distance, IsDistance}
@@ -21,7 +21,7 @@ use Rattle.slot_clean.specs.Inner.{SemiOctetsOf}
 use Rattle.slot_gathering.specs.Inner.{GatheredTo}
 use Rattle.slot_laws.proofs.Sizes.{lengths, checks-fit}
 use Rattle.slot_laws.proofs.Words.{length-piece, below-piece}
-use Rattle.slot_laws.proofs.RoomSteps.{WordPart, room-is, new-data, new_word, same-words-before}
+use Rattle.slot_laws.proofs.RoomSteps.{WordPart, new-data, new_word, same-words-before}
 
 -- ---- the data of a word put where they belong
 
@@ -48,12 +48,9 @@ module _ {size mode i at n e from d : ℕ} {old all : List ℕ} (part : WordPart
       let t = total-next (word_length size) i in
       omega (arith, lengths size part.range.size_from, part.is)
 
-  pub take-fits : from + (d - 1) + length (mid_of at (e - at) old) ≤ length all
-  take-fits =
-      let r = room-is part in
-      let f = checks-fit size mode i part.range part.inside in
-      let b = ends-in in
-      omega (arith, whole.long, is.is, part.is)
+  -- the whole word is there
+  pub fits-in : from + n ≤ length all
+  fits-in = let b = ends-in in omega (arith, whole.long)
 
   abbrev word : List ℕ
   word = piece (word_length size) all i
@@ -63,14 +60,15 @@ module _ {size mode i at n e from d : ℕ} {old all : List ℕ} (part : WordPart
       let t = total-next (word_length size) i in
       length-piece (word_length size) all i (omega (arith, ends-in, whole.long, part.is))
 
-  module _ {last : List ℕ} (copied : last ≡ take (length (mid_of at (e - at) old)) (drop (from + (d - 1)) all)) where
+  module _ {last : List ℕ} (copied : last ≡ take (from + n - (from + (d - 1))) (drop (from + (d - 1)) all)) where
     last-is : last ≡ drop (distance mode - 1) word
     unfolding piece
     last-is =
         let f = checks-fit size mode i part.range part.inside in
+        let m : from + n - (from + (d - 1)) ≡ data_length size mode i = omega (arith, part.is, is.is) in
         copied
-        ∙ ap (λ (x : ℕ). take (length (mid_of at (e - at) old)) (drop (from + (x - 1)) all)) is.is
-        ∙ ap₂ (λ (x : ℕ) (y : List ℕ). take x y) (room-is part) (sym (drop-drop (distance mode - 1) from all))
+        ∙ ap₂ (λ (x y : ℕ). take x (drop (from + (y - 1)) all)) m is.is
+        ∙ ap (take (data_length size mode i)) (sym (drop-drop (distance mode - 1) from all))
         ∙ behind-front (distance mode - 1) (data_length size mode i) (word_length size i) (drop from all) (sym f)
         ∙ ap (λ (y : ℕ). drop (distance mode - 1) (take (word_length size i) (drop y all))) from_is
 

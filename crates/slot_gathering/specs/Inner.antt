@@ -1,13 +1,12 @@
 -- What the functions ask of and promise one another: no part of what is right of a slot.
 -- Assumes nothing.
-use Rattle.std.specs.Prelude.{◌≡◌, List, ℕ, ◌-◌, ◌*◌, ◌≤◌, ◌<◌, length, get_or, drop}
+use Rattle.std.specs.Prelude.{◌≡◌, List, ℕ, ◌-◌, ◌*◌, ◌≤◌, ◌<◌, length, get_or, drop, Option, Some, None}
 use Rattle.laws.specs.Tab.{total, Below}
 use Rattle.code_word_laws.specs.Word.{distance}
 use Rattle.slot_laws.specs.Sizes.{words, word_length}
 use Rattle.slot_laws.specs.Words.{piece, data_word}
 use Rattle.slot_laws.specs.Order.{Data}
 use Rattle.slot_gathering.specs.declared.Outcome.{Outcome}
-use Rattle.slot_gathering.specs.declared.Outcome.TheVariants.{Repaired, Beyond}
 use Rattle.slot_clean.specs.Inner.{word_from}
 
 -- every word as received, one after the other
@@ -36,6 +35,6 @@ pub record SomeNone (size mode : ℕ) (counts : List ℕ) : Type 0 where
   pub inside : word < words size
   pub none : mode ≤ get_or counts word 0
 
-abbrev pub IsGathered : ℕ → ℕ → List ℕ → List ℕ → List ℕ → List ℕ → Outcome → Type 0
-IsGathered size mode all counts bits message (Repaired n b) = GatheredTo size mode all counts bits message (words size) n b
-IsGathered size mode all counts bits message Beyond = SomeNone size mode counts
+abbrev pub IsGathered : ℕ → ℕ → List ℕ → List ℕ → List ℕ → List ℕ → Option Outcome → Type 0
+IsGathered size mode all counts bits message (Some r) = GatheredTo size mode all counts bits message (words size) r.count r.bits
+IsGathered size mode all counts bits message None = SomeNone size mode counts

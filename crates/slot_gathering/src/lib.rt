@@ -9,11 +9,11 @@ ghost use Rattle.slot_interleaving.specs.Inner.{AtWord};
 ghost use Rattle.slot_clean.specs.Inner.{word_from, SemiOctetsOf};
 ghost use Rattle.slot_gathering.specs.Inner.{Rooms, AllArrived, IsGathered};
 
-// Whether every word was corrected: the counts of all changed semi-octets and bits, or a word beyond repair.
+// The counts of the changed semi-octets and of the changed bits of a slot whose words were all corrected.
 #[derive(Clone, Copy)]
-pub enum Outcome {
-    Repaired(u16, u16),
-    Beyond,
+pub struct Outcome {
+    pub count: u16,
+    pub bits: u16,
 }
 
 // Word i as received.
@@ -23,10 +23,8 @@ fn receive(size: usize, i: usize, mode: usize, places: &[u8], row: &[u8], w: &mu
     ensures { w.new ≡ word_from size mode places.now i }
 {
     let count = slot_sizes::word_count(size);
-    let mut k: usize = 0;
-    while k < w.len() {
-        w[k] = places[slot_interleaving::place(size, count, i, k)] ^ row[k];
-        k = k + 1;
+    for (k, x) in w.iter_mut().enumerate() {
+        *x = places[slot_interleaving::place(size, count, i, k)] ^ row[k];
     }
 }
 
@@ -38,17 +36,15 @@ pub fn receive_all(size: usize, mode: usize, places: &[u8], all: &mut [u8])
 {
     let count = slot_sizes::word_count(size);
     let mut at: usize = 0;
-    let mut i: usize = 0;
-    while i < count {
+    for i in 0..count {
         let e = at + slot_sizes::word_length(size, count, i);
         let row = slot_interleaving::signature_row(mode, i);
         receive(size, i, mode, places, &row, &mut all[at..e]);
         at = e;
-        i = i + 1;
     }
 }
 
-// The data of every word put where they belong, and the counts added; or a word has no count.
+// The data of every word put where they belong, and the counts added; or nothing, where a word has no count.
 pub fn gather(
     size: usize,
     mode: usize,
@@ -56,7 +52,7 @@ pub fn gather(
     counts: &[u8],
     bits: &[u8],
     message: &mut [u8],
-) -> Outcome
+) -> Option<Outcome>
     requires semi_octets_of { SemiOctetsOf size mode all.now }
     requires rooms { Rooms size mode counts.now bits.now message.old }
     ensures gathered { IsGathered size mode all.now counts.now bits.now message.new result }
@@ -67,20 +63,20 @@ pub fn gather(
     let mut at: usize = 0;
     let mut sum: u16 = 0;
     let mut bit_sum: u16 = 0;
-    let mut i: usize = 0;
-    while i < counts.len() {
-        let n = counts[i];
-        if mode <= n as usize {
-            return Outcome::Beyond;
+    for (i, n) in counts.iter().enumerate() {
+        if mode <= usize::from(*n) {
+            return None;
         }
         let long = slot_sizes::word_length(size, counts.len(), i);
         let e = at + (long - checks);
-        slot_interleaving::copy_part(all, from + checks, &mut message[at..e]);
-        sum = sum + n as u16;
-        bit_sum = bit_sum + bits[i] as u16;
-        from = from + long;
+        message[at..e].copy_from_slice(&all[from + checks..from + long]);
+        sum += u16::from(*n);
+        bit_sum += u16::from(bits[i]);
+        from += long;
         at = e;
-        i = i + 1;
     }
-    Outcome::Repaired(sum, bit_sum)
+    Some(Outcome {
+        count: sum,
+        bits: bit_sum,
+    })
 }

@@ -11,6 +11,7 @@ ghost use Rattle.slot_repair.specs.Inner.{IsRepair};
 ghost use Rattle.slot.specs.Unprotect.{Unprotects};
 ghost use Rattle.slot_judging.specs.Inner.{Lent};
 
+use refusals::Refusal;
 use slot_answers::Reception;
 use slot_repair::Outcome;
 
@@ -26,14 +27,14 @@ fn correct_in(
     changes: &mut [u8],
     ones: &mut [u8],
     message: &mut [u8],
-) -> Outcome
+) -> Option<Outcome>
     requires lent { Lent size mode rows.now t.now places.old all.old changes.old ones.old message.old }
     requires slot_len { length slot.now ≡ size }
     ensures repair { IsRepair size mode slot.now message.new result }
     ensures fact { Data size mode message.new }
 {
     if slot_repair::clean(size, mode, slot, rows, places, message) {
-        return Outcome::Repaired(0, 0);
+        return Some(Outcome { count: 0, bits: 0 });
     }
     slot_repair::correct(size, mode, places, t, all, changes, ones, message)
 }
@@ -51,17 +52,16 @@ pub fn judge(
     ones: &mut [u8],
     message: &mut [u8],
     frame: &mut [u8],
-) -> Reception
+) -> Result<Reception, Refusal>
     requires lent { Lent size mode rows.now t.now places.old all.old changes.old ones.old message.old }
     requires slot_len { length slot.now ≡ size }
     requires frame_len { length frame.old ≡ frame_size size mode }
     ensures unprotects { Unprotects size mode slot.now frame.old frame.new (told_of result) }
     ensures fact { Data size mode message.new }
 {
-    let Outcome::Repaired(count, bits) = correct_in(
+    let found = correct_in(
         size, mode, slot, rows, t, places, all, changes, ones, message,
-    ) else {
-        return Reception::Beyond;
-    };
+    );
+    let Outcome { count, bits } = found.ok_or(Refusal::Beyond)?;
     slot_delivery::answer(size, mode, count, bits, message, frame)
 }

@@ -4,24 +4,24 @@
 #![tactic(auto)]
 
 ghost use Rattle.slot_laws.specs.Sizes.{Settings};
-ghost use Rattle.slot_answers.specs.Answers.{protected_number};
+ghost use Rattle.refusals.specs.Numbers.{number_of};
 ghost use Rattle.slot_protection.specs.Protect.{Protects};
 
-pub use slot_answers::Protection;
+use refusals::Refusal;
 
 // Annex A's slot of a frame and a request.
-pub fn protect(size: usize, mode: u32, request: u32, frame: &[u8], slot: &mut [u8]) -> Protection
-    ensures { Protects size mode request frame.now slot.old slot.new (protected_number result) }
+pub fn protect(
+    size: usize,
+    mode: u32,
+    request: u32,
+    frame: &[u8],
+    slot: &mut [u8],
+) -> Result<(), Refusal>
+    ensures { Protects size mode request frame.now slot.old slot.new (number_of result) }
 {
-    match size {
-        40..=400 => match mode {
-            2..=4 => match request {
-                0..=3 => protect_sized(size, mode as usize, request, frame, slot),
-                _ => Protection::Setting,
-            },
-            _ => Protection::Setting,
-        },
-        _ => Protection::Setting,
+    match (size, mode, request) {
+        (40..=400, 2..=4, 0..=3) => protect_sized(size, mode as usize, request, frame, slot),
+        _ => Err(Refusal::Setting),
     }
 }
 
@@ -31,19 +31,19 @@ fn protect_sized(
     request: u32,
     frame: &[u8],
     slot: &mut [u8],
-) -> Protection
+) -> Result<(), Refusal>
     requires { Settings size mode request }
-    ensures { Protects size mode request frame.now slot.old slot.new (protected_number result) }
+    ensures { Protects size mode request frame.now slot.old slot.new (number_of result) }
 {
     if frame.len() != slot_sizes::frame_bytes(size, mode) {
-        return Protection::Length;
+        return Err(Refusal::Length);
     }
     if slot.len() != size {
-        return Protection::Length;
+        return Err(Refusal::Length);
     }
     let e = slot_sizes::data_size(size, mode);
     let mut message = [0u8; 800];
     slot_ordering::arrange(size, mode, request, frame, &mut message[..e]);
     slot_interleaving::write_slot(size, mode, &message[..e], slot);
-    Protection::Protected
+    Ok(())
 }

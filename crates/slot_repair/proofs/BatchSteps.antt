@@ -27,8 +27,8 @@ use Rattle.slot_laws.specs.Slot.{code_word, word_in}
 use Rattle.slot_clean.specs.Inner.{unpacked, word_from}
 use Rattle.slot_gathering.specs.Inner.{AllArrived, IsGathered}
 use Rattle.slot_repair.specs.Inner.{changes_to, IsRepairFrom}
+use Rattle.std.specs.Prelude.{Option, Some, None}
 use Rattle.slot_gathering.specs.declared.Outcome.{Outcome}
-use Rattle.slot_gathering.specs.declared.Outcome.TheVariants.{Repaired, Beyond}
 use Rattle.slot_laws.proofs.Sizes.{words-low, length-share, lengths, length_high, checks-fit}
 use Rattle.slot_laws.proofs.Semi.{semi-octets-of, below_of}
 use Rattle.slot_laws.proofs.Words.{joined, below-joined, below-piece, joined-piece}
@@ -195,9 +195,9 @@ counted-over : (size mode : ℕ) (slot message : List ℕ) (w : ℕ → List ℕ
 counted-over size mode slot message w code f counts c =
     total-same _ _ (words size) (λ j l. c j l ∙ ap (changes_by f (word_in size mode slot j)) (sym (code j l)))
 
-pub repaired : (size mode : ℕ) (places all counts bits message : List ℕ) (r : Outcome) → InRange size mode
+pub repaired : (size mode : ℕ) (places all counts bits message : List ℕ) (r : Option Outcome) → InRange size mode
     → Answered size mode places all counts bits → IsGathered size mode all counts bits message r → IsRepairFrom size mode places message r
-repaired size mode places all counts bits message (Repaired n b) r a g slot e p =
+repaired size mode places all counts bits message (Some found) r a g slot e p =
     let each = each_of size mode slot places all counts bits r a e p in
     let near : (j : ℕ) → j < words size → Near mode (word_in size mode slot j) (piece (word_length size) all j) =
     λ j l. (each j l).found (g.few j l) in
@@ -210,6 +210,6 @@ repaired size mode places all counts bits message (Repaired n b) r a g slot e p 
       counted = g.counted ∙ over semi_octet_changed counts (λ j l. (each j l).counted (g.few j l));
       bits_counted = g.bits_counted ∙ over bits_changed bits (λ j l. (each j l).bits_counted (g.few j l));
     }
-repaired size mode places all counts bits message Beyond r a g slot e p =
+repaired size mode places all counts bits message None r a g slot e p =
     let each = each_of size mode slot places all counts bits r a e p in
     record { word = g.word; inside = g.inside; none = (each g.word g.inside).none g.none }

@@ -1,6 +1,6 @@
 -- What the functions ask of and promise one another: no part of what is right of a slot.
 -- Assumes nothing.
-use Rattle.std.specs.Prelude.{◌≡◌, List, ℕ, ◌<◌, length}
+use Rattle.std.specs.Prelude.{◌≡◌, List, ℕ, ◌<◌, length, Option, Some, None}
 use Rattle.laws.specs.Tab.{total}
 use Rattle.code_word_laws.specs.Word.{semi_octet_changed, bits_changed, changes_by}
 use Rattle.code_word_laws.specs.Correct.{Near}
@@ -9,7 +9,6 @@ use Rattle.slot_laws.specs.Order.{Data}
 use Rattle.slot_laws.specs.Slot.{code_word, word_in}
 use Rattle.slot_laws.specs.Corrected.{SomeBeyond}
 use Rattle.slot_gathering.specs.declared.Outcome.{Outcome}
-use Rattle.slot_gathering.specs.declared.Outcome.TheVariants.{Repaired, Beyond}
 use Rattle.slot_clean.specs.Inner.{unpacked}
 
 -- what f counts of the changes in the first n words, as received and over the data
@@ -23,10 +22,10 @@ pub record MendedTo (size mode : ℕ) (slot message : List ℕ) (n count bits : 
   pub counted : count ≡ changes_to semi_octet_changed size mode slot message n
   pub bits_counted : bits ≡ changes_to bits_changed size mode slot message n
 
-abbrev pub IsRepair : ℕ → ℕ → List ℕ → List ℕ → Outcome → Type 0
-IsRepair size mode slot message (Repaired n b) = MendedTo size mode slot message (words size) n b
-IsRepair size mode slot message Beyond = SomeBeyond size mode slot
+abbrev pub IsRepair : ℕ → ℕ → List ℕ → List ℕ → Option Outcome → Type 0
+IsRepair size mode slot message (Some r) = MendedTo size mode slot message (words size) r.count r.bits
+IsRepair size mode slot message None = SomeBeyond size mode slot
 
 -- the answer for the slot of these semi-octets
-abbrev pub IsRepairFrom : ℕ → ℕ → List ℕ → List ℕ → Outcome → Type 0
+abbrev pub IsRepairFrom : ℕ → ℕ → List ℕ → List ℕ → Option Outcome → Type 0
 IsRepairFrom size mode places message r = (slot : List ℕ) → length slot ≡ size → places ≡ unpacked slot → IsRepair size mode slot message r

@@ -47,7 +47,7 @@ pub fn correct(
     counts: &mut [u8],
     bits: &mut [u8],
     message: &mut [u8],
-) -> Outcome
+) -> Option<Outcome>
     requires semi_octets_of { SemiOctetsOf size mode places.now }
     requires table { Table t.now }
     requires rooms { Rooms size mode counts.old bits.old message.old }
@@ -64,7 +64,7 @@ pub fn correct(
 }
 
 // Every word corrected.
-fn repair(size: usize, mode: usize, places: &[u8], message: &mut [u8]) -> Outcome
+fn repair(size: usize, mode: usize, places: &[u8], message: &mut [u8]) -> Option<Outcome>
     requires semi_octets_of { SemiOctetsOf size mode places.now }
     requires fact { Data size mode message.old }
     ensures { IsRepairFrom size mode places.now message.new result }
@@ -87,14 +87,14 @@ fn repair(size: usize, mode: usize, places: &[u8], message: &mut [u8]) -> Outcom
 }
 
 // The data of the slot, with every word corrected.
-pub fn correct_slot(size: usize, mode: usize, slot: &[u8], message: &mut [u8]) -> Outcome
+pub fn correct_slot(size: usize, mode: usize, slot: &[u8], message: &mut [u8]) -> Option<Outcome>
     requires { SlotAndData size mode slot.now message.old }
     ensures { IsRepair size mode slot.now message.new result }
 {
     let rows = code_word::check_rows(mode as u32);
     let mut places = [0u8; 800];
     if clean(size, mode, slot, &rows, &mut places[..2 * size], message) {
-        return Outcome::Repaired(0, 0);
+        return Some(Outcome { count: 0, bits: 0 });
     }
     repair(size, mode, &places[..2 * size], message)
 }

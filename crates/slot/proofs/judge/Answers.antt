@@ -1,51 +1,20 @@
 -- `slot::judge` meets its contract. Assumes nothing.
-use mathlib.Core.List.{List}
-use Prim.Native.Nat.{ℕ}
+use Rattle.std.proofs.Common.{◌≡◌, arith}
+use Rattle.std.specs.Prelude.{Some}
 use Rattle.slot_laws.specs.Sizes.{words}
-use Rattle.slot_laws.specs.Corrected.{SomeBeyond}
 use Rattle.slot_repair.specs.Inner.{MendedTo}
 use Rattle.slot.specs.Unprotect.{Taken}
-use Rattle.slot.proofs.UnprotectSteps.{answered, beyond-answer}
+use Rattle.slot.proofs.UnprotectSteps.{answered}
 use Rattle.slot.proofs.judge.Goals as goal
-
-pub returns-in_default : goal.returns-in_default
-returns-in_default c =
-    let taken_here : let a = c.args in Taken a.size a.mode a.slot.now a.frame.now =
-    record {
-      range = c.requires.range;
-      lengths = c.requires.lengths;
-      bytes = λ i. (c.type_inv.slot i).fits;
-    } in
-    let a = c.args in
-    let y : SomeBeyond a.size a.mode a.slot.now = rw c.in_default.is at c.correct_slot.ensures in
-    beyond-answer a.size a.mode a.slot.now a.frame.now taken_here y
-
-pub answer-requires : goal.answer-requires
-answer-requires c =
-    let message-at : List ℕ =
-    c.correct_slot.new.message in
-    let mended-here : let a = c.args in MendedTo a.size a.mode a.slot.now message-at (words a.size) c.in-Repaired.count
-    c.in-Repaired.bits =
-    rw c.in-Repaired.is at c.correct_slot.ensures in
-    record {
-      in_range = c.requires.range;
-      fact = mended-here.given;
-      frame_len = c.requires.lengths.frame_long;
-    }
 
 pub returns : goal.returns
 returns c =
-    let taken_here : let a = c.args in Taken a.size a.mode a.slot.now a.frame.now =
-    record {
-      range = c.requires.range;
-      lengths = c.requires.lengths;
-      bytes = λ i. (c.type_inv.slot i).fits;
-    } in
-    let message-at : List ℕ =
-    c.correct_slot.new.message in
-    let mended-here : let a = c.args in MendedTo a.size a.mode a.slot.now message-at (words a.size) c.in-Repaired.count
-    c.in-Repaired.bits =
-    rw c.in-Repaired.is at c.correct_slot.ensures in
     let a = c.args in
-    answered a.size a.mode a.slot.now a.frame.now c.answer.new.frame message-at _ _
-    taken_here mended-here c.answer.result c.answer.ensures.answered
+    let taken : Taken a.size a.mode a.slot.now a.frame.now =
+    record { range = c.requires.range; lengths = c.requires.lengths; bytes = λ i. (c.type_inv.slot i).fits } in
+    let found = c.in_ok-count.field-0 in
+    let repaired : c.correct_slot.result ≡ Some found = grind arith in
+    let mended : MendedTo a.size a.mode a.slot.now c.correct_slot.new.message (words a.size) found.count found.bits =
+    rw repaired at c.correct_slot.ensures in
+    answered a.size a.mode a.slot.now a.frame.now c.answer.new.frame c.correct_slot.new.message _ _ taken mended c.answer.result
+    c.answer.ensures.answered

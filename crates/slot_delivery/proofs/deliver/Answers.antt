@@ -5,12 +5,7 @@ use Rattle.laws.proofs.Tab.{below-take, below-drop}
 use lib.ListN.{length, drop}
 use Prim.Native.Nat.{◌-◌}
 use native.Mathlib.Omega.{arith}
-use mathlib.Core.Path.{refl}
 use Rattle.slot_delivery.proofs.deliver.Goals as goal
-
-pub returns-then-not-matches : goal.returns-then-not-matches
-returns-then-not-matches c =
-    record { foreign = c.matches.ensures.fails c.if-not-matches.true; kept = refl }
 
 pub roll-requires : goal.roll-requires
 roll-requires c =

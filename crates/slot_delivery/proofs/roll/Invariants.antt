@@ -1,9 +1,8 @@
 -- `slot_delivery::roll` meets its contract. The invariant of its loop stands at the head. Assumes nothing.
 use Rattle.laws.proofs.Fill.{Filled}
-use lib.ListN.{length, get_or}
-use mathlib.Core.Path.{◌≡◌}
+use lib.ListN.{get_or}
 use mathlib.Core.List.{List}
-use Prim.Native.Nat.{ℕ, ◌≤◌, ◌-◌, ◌*◌, ◌+◌}
+use Prim.Native.Nat.{ℕ, ◌-◌, ◌*◌, ◌+◌}
 use Rattle.slot_delivery.proofs.roll.Given as goal
 
 -- byte j of a frame of n bytes, from its semi-octets
@@ -11,7 +10,4 @@ abbrev pub byte_at : List ℕ → ℕ → ℕ → ℕ
 byte_at a n j = get_or a (2 * n - 1 - 2 * j) 0 + 16 * get_or a (2 * n - 1 - (2 * j + 1)) 0
 
 abbrev pub invariant-loop-j : goal.invariant-loop-j
-invariant-loop-j l = (l.j ≤ l.n) × (length l.frame ≡ l.n) × Filled (byte_at l.a l.n) l.n l.j l.frame
-
-abbrev pub decreases-loop-j : goal.decreases-loop-j
-decreases-loop-j l = l.n - l.j
+invariant-loop-j l = Filled (byte_at l.a l.n) l.n l.j l.frame

@@ -1,7 +1,6 @@
 -- `slot_each::each` meets its contract. The loop has the answers and the frames of the slots before. Assumes nothing.
 use mathlib.Core.Path.{◌≡◌}
-use Prim.Native.Nat.{◌*◌, ◌-◌, ◌≤◌}
-use lib.ListN.{length}
+use Prim.Native.Nat.{◌*◌}
 use Rattle.slot_laws.specs.Sizes.{frame_size}
 use Rattle.slot_each.specs.Each.{five}
 use Rattle.slot_judging.specs.Inner.{Lent}
@@ -9,11 +8,10 @@ use Rattle.slot_each.specs.Inner.{EachTo}
 use Rattle.slot_each.proofs.each.Given as goal
 
 abbrev pub invariant-loop-i : goal.invariant-loop-i
-invariant-loop-i l =
-    (l.i ≤ length l.initial.numbers) × (l.at ≡ l.i * l.size) × (l.put ≡ l.i * frame_size l.size l.mode) × Lent l.size l.mode l.rows l.t
-    l.places l.all l.changes l.ones l.message
-    × EachTo l.size l.mode l.i l.slots (five l.initial.numbers l.initial.requests l.initial.counts l.initial.bits l.initial.frames)
-    (five l.numbers l.requests l.counts l.bits l.frames)
-
-abbrev pub decreases-loop-i : goal.decreases-loop-i
-decreases-loop-i l = length l.initial.numbers - l.i
+invariant-loop-i l = record {
+  slot_place : l.at ≡ l.i * l.size;
+  frame_place : l.put ≡ l.i * frame_size l.size l.mode;
+  lent : Lent l.size l.mode l.rows l.t l.places l.all l.changes l.ones l.message;
+  each_to : EachTo l.size l.mode l.i l.slots (five l.initial.numbers l.initial.requests l.initial.counts l.initial.bits l.initial.frames)
+      (five l.numbers l.requests l.counts l.bits l.frames);
+}

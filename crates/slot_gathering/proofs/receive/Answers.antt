@@ -1,6 +1,6 @@
 -- `slot_gathering::receive` meets its contract. The invariant of its loop stands at the head. Assumes nothing.
 use mathlib.Core.Path.{refl}
-use Prim.Native.Nat.{ℕ, ◌<◌}
+use Prim.Native.Nat.{◌<◌}
 use native.Mathlib.Omega.{arith}
 use lib.ListN.{length, get_or}
 use Rattle.laws.proofs.Fill.{filled-first, filled_next}
@@ -13,36 +13,28 @@ use Rattle.slot_gathering.proofs.receive.Goals as goal
 
 pub loop-k-init : goal.loop-k-init
 loop-k-init c =
-    let wanted : ℕ → ℕ =
-    λ j. get_or (word_from c.args.size c.args.mode c.args.places.now c.args.i) j 0 in
-    (omega arith, filled-first wanted (length c.args.w.now) c.args.w.now refl)
+    let a = c.args in
+    filled-first (λ j. get_or (word_from a.size a.mode a.places.now a.i) j 0) (length a.w.now) a.w.now refl
 
 pub place-requires : goal.place-requires
 place-requires c =
-    let in_word : c.loop-k.k < word_length c.args.size c.args.i =
-    omega (arith, c.requires.w_len, c.loop-k-test.true, c.loop-k.invariant.1.long) in
+    let in_word : c.loop-k.k < word_length c.args.size c.args.i = omega arith in
     has-place c.requires.at_word c.word_count-count.ensures.value in_word
 
 pub bounds-row-k : goal.bounds-row-k
 bounds-row-k c =
-    let in_word : c.loop-k.k < word_length c.args.size c.args.i =
-    omega (arith, c.requires.w_len, c.loop-k-test.true, c.loop-k.invariant.1.long) in
+    let in_word : c.loop-k.k < word_length c.args.size c.args.i = omega arith in
     in_row c.requires.at_word in_word
 
 pub loop-k-preserved : goal.loop-k-preserved
 loop-k-preserved c =
-    let wanted : ℕ → ℕ =
-    λ j. get_or (word_from c.args.size c.args.mode c.args.places.now c.args.i) j 0 in
-    let in_word : c.loop-k.k < word_length c.args.size c.args.i =
-    omega (arith, c.requires.w_len, c.loop-k-test.true, c.loop-k.invariant.1.long) in (
-      omega arith,
-      filled_next wanted (length c.args.w.now) c.loop-k.k c.loop-k.w _ c.loop-k.invariant.1
-          (omega (arith, c.loop-k-test.true, c.loop-k.invariant.1.long))
-          (from_at c.requires.at_word in_word c.place.ensures.value),
-    )
+    let a = c.args in
+    let in_word : c.loop-k.k < word_length a.size a.i = omega arith in
+    filled_next (λ j. get_or (word_from a.size a.mode a.places.now a.i) j 0) (length a.w.now) c.loop-k.k c.loop-k.w _
+    c.loop-k.invariant (omega arith) (from_at c.requires.at_word in_word c.place.ensures.value)
 
 pub returns : goal.returns
 returns c =
     let a = c.args in
     arrived-last a.size a.mode a.i (length a.w.now) c.loop-k.k a.places.now c.loop-k.w c.requires.w_len (omega arith)
-    c.loop-k.invariant.1
+    c.loop-k.invariant

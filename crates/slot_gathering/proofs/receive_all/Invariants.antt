@@ -1,10 +1,6 @@
 -- `slot_gathering::receive_all` meets its contract. The loop has the first words in front, joined. Assumes nothing.
-use Prim.Native.Nat.{◌≤◌, ◌-◌}
 use Rattle.slot_gathering.proofs.Arriving.{ArrivedTo}
 use Rattle.slot_gathering.proofs.receive_all.Given as goal
 
 abbrev pub invariant-loop-i : goal.invariant-loop-i
-invariant-loop-i l = (l.i ≤ l.count) × ArrivedTo l.size l.mode l.places l.i l.at l.all
-
-abbrev pub decreases-loop-i : goal.decreases-loop-i
-decreases-loop-i l = l.count - l.i
+invariant-loop-i l = ArrivedTo l.size l.mode l.places l.i l.at l.all

@@ -9,16 +9,26 @@ use Rattle.slot_clean.specs.Inner.{unpacked, SemiOctetsOf}
 use Rattle.slot_laws.proofs.ProtectSteps.{blanks}
 use Rattle.slot_clean.proofs.Unpacking.{lent_is, unpacked-whole}
 use Rattle.slot_repair.proofs.correct_slot.Goals as goal
+use Rattle.slot_repair.proofs.correct_slot.Goals.{After-clean}
+
+-- the semi-octets that are lent once the slot is unpacked
+abbrev lent : ℕ → List ℕ → List ℕ
+lent size places = let n = 2 * size in take n (places ++ drop n blanks)
+
+is : (c : After-clean) → lent c.args.size c.clean.new.places ≡ unpacked c.args.slot.now
+is c = lent_is c.args.size c.args.slot.now c.clean.new.places _ c.requires.long c.clean.ensures.places_after
+
+whole : (c : After-clean) → SemiOctetsOf c.args.size c.args.mode (lent c.args.size c.clean.new.places)
+whole c = unpacked-whole c.args.size c.args.slot.now (lent c.args.size c.clean.new.places) c.requires.long (is c) c.requires.range
 
 pub slice_bounds-clean-end : goal.slice_bounds-clean-end
-slice_bounds-clean-end c =
-    sym (length-take-le (2 * c.args.size) blanks (omega (arith, c.requires.range.size_to)))
+slice_bounds-clean-end c = sym (length-take-le (2 * c.args.size) blanks (omega arith))
 
 pub clean-requires : goal.clean-requires
 clean-requires c = let r = c.requires.range in record {
   slot_and_data = c.requires;
   rows_value = c.check_rows-rows.ensures.inside r.mode_from r.mode_to;
-  places_len = length-take-le (2 * c.args.size) blanks (omega (arith, r.size_to));
+  places_len = length-take-le (2 * c.args.size) blanks (omega arith);
 }
 
 pub returns-then-clean : goal.returns-then-clean
@@ -26,37 +36,17 @@ returns-then-clean c = c.clean.ensures.mended_to c.if-clean.true
 
 pub slice_bounds-places-end-2 : goal.slice_bounds-places-end-2
 slice_bounds-places-end-2 c =
-    let n = 2 * c.args.size in
-    let l = length_front blanks c.clean.new.places n c.clean.auto.places in
-    omega (arith, c.requires.range.size_to)
+    let l = length_front blanks c.clean.new.places (2 * c.args.size) c.clean.auto.places in
+    omega arith
 
 pub slice_bounds-repair-end : goal.slice_bounds-repair-end
-slice_bounds-repair-end c =
-    let lent : List ℕ =
-    let n = 2 * c.args.size in take n (c.clean.new.places ++ drop n blanks) in
-    let is : lent ≡ unpacked c.args.slot.now =
-    lent_is c.args.size c.args.slot.now c.clean.new.places _ c.requires.long c.clean.ensures.places_after in
-    let whole : SemiOctetsOf c.args.size c.args.mode lent =
-    unpacked-whole c.args.size c.args.slot.now lent c.requires.long is c.requires.range in
-    sym whole.long
+slice_bounds-repair-end c = let w = whole (goal.at.slice_bounds-repair-end c).After-clean in sym w.long
 
 pub repair-requires : goal.repair-requires
-repair-requires c =
-    let lent : List ℕ =
-    let n = 2 * c.args.size in take n (c.clean.new.places ++ drop n blanks) in
-    let is : lent ≡ unpacked c.args.slot.now =
-    lent_is c.args.size c.args.slot.now c.clean.new.places _ c.requires.long c.clean.ensures.places_after in
-    let whole : SemiOctetsOf c.args.size c.args.mode lent =
-    unpacked-whole c.args.size c.args.slot.now lent c.requires.long is c.requires.range in
-    record {
-      semi_octets_of = whole;
-      fact = c.clean.ensures.fact;
-    }
+repair-requires c = record {
+  semi_octets_of = whole (goal.at.repair-requires c).After-clean;
+  fact = c.clean.ensures.fact;
+}
 
 pub returns : goal.returns
-returns c =
-    let lent : List ℕ =
-    let n = 2 * c.args.size in take n (c.clean.new.places ++ drop n blanks) in
-    let is : lent ≡ unpacked c.args.slot.now =
-    lent_is c.args.size c.args.slot.now c.clean.new.places _ c.requires.long c.clean.ensures.places_after in
-    c.repair.ensures c.args.slot.now c.requires.long is
+returns c = c.repair.ensures c.args.slot.now c.requires.long (is (goal.at.returns c).After-clean)

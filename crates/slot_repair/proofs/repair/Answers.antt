@@ -1,37 +1,32 @@
 -- `slot_repair::repair` meets its contract. The room that it lends is as long as asked. Assumes nothing.
 use mathlib.Core.Path.{◌≡◌, sym, ◌∙◌}
-use Prim.Native.Nat.{ℕ, ◌*◌}
+use Prim.Native.Nat.{ℕ, ◌*◌, ◌≤◌}
 use native.Mathlib.Omega.{arith}
 use lib.Seq.{length-take-le}
 use lib.ListN.{length, take, replicate}
 use Rattle.slot_laws.proofs.ProtectSteps.{blanks}
 use Rattle.slot_repair.proofs.repair.Goals as goal
 
+-- room for the counts
+room-for : (count : ℕ) → count ≤ 54 → length {A = ℕ} (take count (replicate 54 0)) ≡ count
+room-for count l = length-take-le count (replicate 54 0) l
+
 pub slice_bounds-correct-end : goal.slice_bounds-correct-end
-slice_bounds-correct-end c =
-    sym (length-take-le (2 * c.args.size) blanks (omega (arith, c.requires.semi_octets_of.range.size_to)))
+slice_bounds-correct-end c = sym (length-take-le (2 * c.args.size) blanks (omega arith))
 
 pub slice_bounds-correct-end-2 : goal.slice_bounds-correct-end-2
-slice_bounds-correct-end-2 c =
-    let room_for : length {A = ℕ} (take c.word_count-count.result (replicate 54 0)) ≡ c.word_count-count.result =
-    length-take-le c.word_count-count.result (replicate 54 0) (omega (arith, c.word_count-count.ensures.upper_bound)) in
-    sym room_for
+slice_bounds-correct-end-2 c = sym (room-for c.word_count-count.result c.word_count-count.ensures.upper_bound)
 
 pub slice_bounds-correct-end-3 : goal.slice_bounds-correct-end-3
-slice_bounds-correct-end-3 c =
-    let room_for : length {A = ℕ} (take c.word_count-count.result (replicate 54 0)) ≡ c.word_count-count.result =
-    length-take-le c.word_count-count.result (replicate 54 0) (omega (arith, c.word_count-count.ensures.upper_bound)) in
-    sym room_for
+slice_bounds-correct-end-3 c = sym (room-for c.word_count-count.result c.word_count-count.ensures.upper_bound)
 
 pub correct-requires : goal.correct-requires
 correct-requires c =
-    let room_for : length {A = ℕ} (take c.word_count-count.result (replicate 54 0)) ≡ c.word_count-count.result =
-    length-take-le c.word_count-count.result (replicate 54 0) (omega (arith, c.word_count-count.ensures.upper_bound)) in
-    let many = room_for ∙ c.word_count-count.ensures.value in record {
+    let many = room-for c.word_count-count.result c.word_count-count.ensures.upper_bound ∙ c.word_count-count.ensures.value in record {
       semi_octets_of = c.requires.semi_octets_of;
       table = c.table-t.ensures;
       rooms = record { many = many; many_bits = many; given = c.requires.fact };
-      all_len = length-take-le (2 * c.args.size) blanks (omega (arith, c.requires.semi_octets_of.range.size_to));
+      all_len = length-take-le (2 * c.args.size) blanks (omega arith);
     }
 
 pub returns : goal.returns
