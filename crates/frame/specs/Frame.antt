@@ -1,11 +1,9 @@
 -- A whole frame (5.4.2), in the order of reading, and document 01's refusals 1 and 2 in front of it. Assumes nothing.
-use Rattle.std.specs.Prelude.{Bool, ◌&&◌, cond, List, ℕ, leb, eqb, length}
+use Rattle.std.specs.Prelude.{Bool, ◌&&◌, cond, Option, Some, None, List, ℕ, leb, eqb, length}
 use Rattle.frame_bits.specs.Read.{Read, and_then}
 use Rattle.frame_settings.specs.Settings.{setting_of}
 use Rattle.frame_side.specs.Side.{side_of}
 use Rattle.frame_settings.specs.declared.Setting.{Setting}
-use Rattle.frame_settings.specs.declared.Settled.{Settled}
-use Rattle.frame_settings.specs.declared.Settled.TheVariants as settled
 use Rattle.frame_arithmetic.specs.Answers.{Whole, arithmetic_from, Judged, judged_read, refused}
 
 -- the frame's fields, spectrum and residual bits, or the first cause in reading order
@@ -21,9 +19,9 @@ abbrev pub judged_sized : Setting → List ℕ → ℕ → ℕ → Judged
 judged_sized r s x b = cond (eqb x r.lines && eqb b r.lines) (judged_read (frame_of s r)) (refused 2 0)
 
 -- 1: a setting is out of range
-abbrev pub judged_at : Settled → List ℕ → ℕ → ℕ → Judged
-judged_at settled.Unknown s x b = refused 1 0
-judged_at (settled.Known r) s x b = cond (sized (length s)) (judged_sized r s x b) (refused 1 0)
+abbrev pub judged_at : Option Setting → List ℕ → ℕ → ℕ → Judged
+judged_at None s x b = refused 1 0
+judged_at (Some r) s x b = cond (sized (length s)) (judged_sized r s x b) (refused 1 0)
 
 -- of a rate, a duration, a frame, and the lengths of the two lent buffers
 unfoldable pub judged_of : ℕ → ℕ → List ℕ → ℕ → ℕ → Judged

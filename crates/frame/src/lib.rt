@@ -11,13 +11,12 @@ ghost use Rattle.frame_answers.specs.Answers.{told};
 ghost use Rattle.frame_arithmetic.specs.Answers.{Answers};
 ghost use Rattle.frame_arithmetic.specs.Sound.{Bounded};
 
-use frame_answers::refused;
-pub use frame_answers::{Answer, Fields, Reading};
+pub use frame_answers::{Fields, Reading};
 use frame_arithmetic::read_arithmetic;
+use frame_settings::Setting;
 pub use frame_settings::line_count;
-use frame_settings::{Setting, Settled};
-use frame_side::SideRead;
 pub use frame_side::{Flags, Head, Shape, Side, Tail};
+pub use refusals::{Cause, Refusal};
 
 // One frame, by clause 5.4.2; the duration is in quarter milliseconds.
 pub fn read(
@@ -26,39 +25,34 @@ pub fn read(
     frame: &[u8],
     spectrum: &mut [i32],
     residual: &mut [u8],
-) -> Reading
+) -> Result<Reading, Refusal>
     ensures answers { Answers (told result) (judged_of khz duration frame.now (length spectrum.old) (length residual.old))
         spectrum.old spectrum.new residual.old residual.new }
     ensures bounded { Bounded (last_cause_of (setting_of khz duration)) (told result) spectrum.new }
 {
-    let settled = frame_settings::setting_of(khz, duration);
-    let Settled::Known(r) = settled else {
-        return refused(Answer::Setting);
-    };
-    let n = frame.len();
-    match n {
+    let r = frame_settings::setting_of(khz, duration).ok_or(Refusal::Setting)?;
+    match frame.len() {
         20..=400 => read_sized(r, frame, spectrum, residual),
-        _ => refused(Answer::Setting),
+        _ => Err(Refusal::Setting),
     }
 }
 
 // The two lent buffers, then the side information.
-fn read_sized(r: Setting, frame: &[u8], spectrum: &mut [i32], residual: &mut [u8]) -> Reading
+fn read_sized(
+    r: Setting,
+    frame: &[u8],
+    spectrum: &mut [i32],
+    residual: &mut [u8],
+) -> Result<Reading, Refusal>
     requires known { Known r }
     requires sized { Sized frame.now }
     ensures answers { Answers (told result) (judged_sized r frame.now (length spectrum.old) (length residual.old))
         spectrum.old spectrum.new residual.old residual.new }
     ensures bounded { Bounded (last_cause (order_of r.duration)) (told result) spectrum.new }
 {
-    let lines = r.lines;
-    if spectrum.len() != lines {
-        return refused(Answer::Length);
+    if spectrum.len() != r.lines || residual.len() != r.lines {
+        return Err(Refusal::Length);
     }
-    if residual.len() != lines {
-        return refused(Answer::Length);
-    }
-    match frame_side::read_side(frame, r) {
-        SideRead::Cause(k) => refused(Answer::BitError(k)),
-        SideRead::Value(v, p) => read_arithmetic(r, v, p, frame, spectrum, residual),
-    }
+    let side = frame_side::read_side(frame, r)?;
+    read_arithmetic(r, side.value, side.next, frame, spectrum, residual)
 }

@@ -11,11 +11,13 @@ ghost use Rattle.frame_side.specs.Sound.{Sided};
 ghost use Rattle.frame_spectral.specs.Sound.{Buffers};
 ghost use Rattle.frame_arithmetic.specs.Sound.{Bounded};
 
-use frame_answers::{Answer, Fields, Reading, refused};
+use frame_answers::{Fields, Reading};
+use frame_pair::Streams;
 use frame_settings::Setting;
 use frame_side::Side;
-use frame_spectral::{SpectralRead, read_spectral};
-use frame_tns::{FilterRead, filter};
+use frame_spectral::read_spectral;
+use frame_tns::filter;
+use refusals::Refusal;
 
 // The arithmetic stream: the TNS data of both filters, then the pairs.
 pub fn read_arithmetic(
@@ -25,7 +27,7 @@ pub fn read_arithmetic(
     frame: &[u8],
     spectrum: &mut [i32],
     residual: &mut [u8],
-) -> Reading
+) -> Result<Reading, Refusal>
     requires known { Known r }
     requires sized { Sized frame.now }
     requires sided { Sided r v p }
@@ -37,30 +39,26 @@ pub fn read_arithmetic(
     let orders = coder_tables::tns_order();
     let rows = coder_tables::tns_coefficients();
     let q = r.duration;
-    let f = v.flags;
+    let flags = v.flags;
     let mut first = [0u8; 8];
     let mut second = [0u8; 8];
     let start = frame_coder::start(frame);
-    match filter(frame, &orders, &rows, q, f.tns_0, &mut first, start) {
-        FilterRead::Cause(k) => refused(Answer::BitError(k)),
-        FilterRead::Value(m, c) => match filter(frame, &orders, &rows, q, f.tns_1, &mut second, c) {
-            FilterRead::Cause(k) => refused(Answer::BitError(k)),
-            FilterRead::Value(n, d) => match read_spectral(
-                r, v.head, d, p, frame, spectrum, residual,
-            ) {
-                SpectralRead::Cause(k) => refused(Answer::BitError(k)),
-                SpectralRead::Value(symbols, count, _) => Reading {
-                    answer: Answer::Read(Fields {
-                        side: v,
-                        tns_order_0: m,
-                        tns_order_1: n,
-                        residual_bits: count,
-                        symbols,
-                    }),
-                    tns_coefficients_0: first,
-                    tns_coefficients_1: second,
-                },
-            },
+    let order_0 = filter(frame, &orders, &rows, q, flags.tns_0, &mut first, start)?;
+    let order_1 = filter(frame, &orders, &rows, q, flags.tns_1, &mut second, order_0.next)?;
+    let from = Streams {
+        coder: order_1.next,
+        side: p,
+    };
+    let x = read_spectral(r, v.head, from, frame, spectrum, residual)?;
+    Ok(Reading {
+        fields: Fields {
+            side: v,
+            tns_order_0: order_0.value,
+            tns_order_1: order_1.value,
+            residual_bits: x.residual_bits,
+            symbols: x.symbols,
         },
-    }
+        tns_coefficients_0: first,
+        tns_coefficients_1: second,
+    })
 }
