@@ -120,124 +120,130 @@ pub record Room (level : ℕ) (c : Coder) (p : Cursor) : Type 0 where
   pub taken : c.taken < 65536
   pub written : p.at ≤ 4000
 
-module _ (look cum : List ℕ) (base x y : ℕ) (small : x ≤ 32767) (small' : y ≤ 32767) (front₀ side₀ : List ℕ) (c₀ : Coder)
-    (p₀ : Cursor) where
-  pub walks-first : Flows front₀ c₀ → Open side₀ p₀ → Walks look cum base x y front₀ side₀ c₀ p₀ front₀ side₀ x y 0 c₀ p₀
-  unfolding walk_bits
-  walks-first f o =
-      let z : level_of x y - 0 ≡ level_of x y = sub-zero (level_of x y) in
+pub walks-first : (look cum : List ℕ) (base x y : ℕ) (front₀ side₀ : List ℕ) (c₀ : Coder) (p₀ : Cursor) → Flows front₀ c₀ → Open side₀ p₀
+    → Walks look cum base x y front₀ side₀ c₀ p₀ front₀ side₀ x y 0 c₀ p₀
+unfolding walk_bits
+walks-first look cum base x y front₀ side₀ c₀ p₀ f o =
+    let z : level_of x y - 0 ≡ level_of x y = sub-zero (level_of x y) in
+    record {
+      first = sym (div-one x);
+      second = sym (div-one y);
+      few = omega arith;
+      rest = rw z;
+      kept = puts_none side₀ p₀;
+      written = omega arith;
+      at = omega arith;
+      taken = omega arith;
+      flows = f;
+      sides = o;
+    }
+
+module _ {look cum : List ℕ} {base x y : ℕ} {front₀ side₀ : List ℕ} {c₀ : Coder} {p₀ : Cursor} {front side : List ℕ} {a b level : ℕ}
+    {c : Coder} {p : Cursor} (small : x ≤ 32767) (small' : y ≤ 32767)
+    (w : Walks look cum base x y front₀ side₀ c₀ p₀ front side a b level c p) where
+  -- no more than 13
+  walks-few : level ≤ 13
+  walks-few = let h = (level_in x y small small').2 in let e = w.few in omega arith
+
+  pub walks-room : c₀.at ≤ 480 → c₀.taken ≤ 32768 → p₀.at ≤ 3500 → Room level c p
+  walks-room h k m =
+      let few = walks-few in
+      let at1 = w.at in
+      let taken1 = w.taken in
+      let written1 = w.written in
+      record { few = few; at = omega arith; taken = omega arith; written = omega arith }
+
+  -- an escape more: its level is not the last
+  walks_less : Escapes a b → level < level_of x y
+  walks_less g = go (ltb level (level_of x y)) refl
+    where
+      go : (t : Bool) → ltb level (level_of x y) ≡ t → level < level_of x y
+      go true e = ltb-true level (level_of x y) e
+      go false e =
+          let n = ltb-false level (level_of x y) e in
+          let few = w.few in
+          let same : level_of x y ≡ level = omega arith in
+          let h = level_in x y small small' in
+          let i : x / 2 ^ level < 4 = subst (λ (z : ℕ). x / 2 ^ z < 4) same h.0 in
+          let j : y / 2 ^ level < 4 = subst (λ (z : ℕ). y / 2 ^ z < 4) same h.1 in
+          absurd (g (rw w.first i) (rw w.second j))
+
+  pub walks-below : Escapes a b → level < 13
+  walks-below g =
+      let h = walks_less g in
+      let t = (level_in x y small small').2 in
+      omega arith
+
+  pub walks_more : (front' side' : List ℕ) (row : ℕ) (d : Coder) (q : Cursor) → Escapes a b → row ≡ row_of look base level
+      → whole_of front' d ≡ coded cum row 16 (whole_of front c) → Flows front' d → OneMore c d
+      → Puts (value_bits (a % 2 + 2 * (b % 2)) 2) side side' p q → Open side' q → q.at ≡ p.at + 2
+      → Walks look cum base x y front₀ side₀ c₀ p₀ front' side' (a / 2) (b / 2) (level + 1) d q
+  walks_more front' side' row d q g e f h m k o i =
+      let less = walks_less g in
+      let top = (level_in x y small small').2 in
+      let l : ℕ = level_of x y in
+      let v : ℕ = symbol_at x y l in
+      let t = level-more 13 a b level (omega arith) g in
+      let few = w.few in
+      let written = w.written in
+      let at = w.at in
+      let taken = w.taken in
+      let at1 = m.at in
+      let taken1 = m.taken in
       record {
-        first = sym (div-one x);
-        second = sym (div-one y);
+        first = ap (λ (z : ℕ). z / 2) w.first ∙ half-next x level;
+        second = ap (λ (z : ℕ). z / 2) w.second ∙ half-next y level;
         few = omega arith;
-        rest = rw z;
-        kept = puts_none side₀ p₀;
+        rest = rw (f, e) (walk_more look cum base v l level (whole_of front c) less ∙ w.rest);
+        kept = puts-as (walk-next x y level a b w.first w.second)
+            (puts-append (walk_bits x y level 0) (value_bits (a % 2 + 2 * (b % 2)) 2) w.kept k);
         written = omega arith;
         at = omega arith;
         taken = omega arith;
-        flows = f;
+        flows = h;
         sides = o;
       }
 
-  module _ (front side : List ℕ) (a b level : ℕ) (c : Coder) (p : Cursor)
-      (w : Walks look cum base x y front₀ side₀ c₀ p₀ front side a b level c p) where
-    -- no more than 13
-    pub walks-few : level ≤ 13
-    walks-few = let h = (level_in x y small small').2 in let e = w.few in omega arith
+  -- the last symbol
+  module _ (front' : List ℕ) (row : ℕ) (d : Coder) (low : a < 4) (low' : b < 4) (place : row ≡ row_of look base level)
+      (send : whole_of front' d ≡ coded cum row (a + 4 * b) (whole_of front c)) (flow : Flows front' d) (one : OneMore c d) where
+    walks-level : level ≡ level_of x y
+    walks-level = let e = level-none (13 - level) a b low low' in let few = w.few in omega arith
 
-    pub walks-room : c₀.at ≤ 480 → c₀.taken ≤ 32768 → p₀.at ≤ 3500 → Room level c p
-    walks-room h k m =
-        let few = walks-few in
-        let at1 = w.at in
-        let taken1 = w.taken in
-        let written1 = w.written in
-        record { few = few; at = omega arith; taken = omega arith; written = omega arith }
+    walks-symbol : a + 4 * b ≡ symbol_at x y (level_of x y)
+    walks-symbol = ap₂ (λ (i j : ℕ). i + 4 * j) w.first w.second ∙ ap (λ (l : ℕ). symbol_at x y l) walks-level
 
-    -- an escape more: its level is not the last
-    pub walks_less : Escapes a b → level < level_of x y
-    walks_less g = go (ltb level (level_of x y)) refl
-      where
-        go : (t : Bool) → ltb level (level_of x y) ≡ t → level < level_of x y
-        go true e = ltb-true level (level_of x y) e
-        go false e =
-            let n = ltb-false level (level_of x y) e in
-            let few = w.few in
-            let same : level_of x y ≡ level = omega arith in
-            let h = level_in x y small small' in
-            let i : x / 2 ^ level < 4 = subst (λ (z : ℕ). x / 2 ^ z < 4) same h.0 in
-            let j : y / 2 ^ level < 4 = subst (λ (z : ℕ). y / 2 ^ z < 4) same h.1 in
-            absurd (g (rw w.first i) (rw w.second j))
-
-    pub walks_more : (front' side' : List ℕ) (row : ℕ) (d : Coder) (q : Cursor) → Escapes a b → row ≡ row_of look base level
-        → whole_of front' d ≡ coded cum row 16 (whole_of front c) → Flows front' d → OneMore c d
-        → Puts (value_bits (a % 2 + 2 * (b % 2)) 2) side side' p q → Open side' q → q.at ≡ p.at + 2
-        → Walks look cum base x y front₀ side₀ c₀ p₀ front' side' (a / 2) (b / 2) (level + 1) d q
-    walks_more front' side' row d q g e f h m k o i =
-        let less = walks_less g in
-        let top = (level_in x y small small').2 in
+    walks-sent : Sent (walk_items look cum base (symbol_at x y (level_of x y)) (level_of x y) 0) (walk_bits x y (level_of x y) 0)
+        front₀ front' side₀ side c₀ d p₀ p
+    walks-sent =
         let l : ℕ = level_of x y in
         let v : ℕ = symbol_at x y l in
-        let t = level-more 13 a b level (omega arith) g in
-        let few = w.few in
+        let e = walks-level in
+        let n = walk-length x y l 0 in
+        let written = w.written in
+        record {
+          coder = rw (send, place, walks-symbol) (walk_end look cum base v l level (whole_of front c) e ∙ w.rest);
+          kept = puts-as (ap (λ (m : ℕ). walk_bits x y m 0) e) w.kept;
+          length = omega arith;
+        }
+
+    walks-sends : Sends (c₀.at + 28) (c₀.taken + 14) (p₀.at + 26) front' side d p
+    walks-sends =
+        let few = walks-few in
         let written = w.written in
         let at = w.at in
         let taken = w.taken in
-        let at1 = m.at in
-        let taken1 = m.taken in
-        record {
-          first = ap (λ (z : ℕ). z / 2) w.first ∙ half-next x level;
-          second = ap (λ (z : ℕ). z / 2) w.second ∙ half-next y level;
-          few = omega arith;
-          rest = rw (f, e) (walk_more look cum base v l level (whole_of front c) less ∙ w.rest);
-          kept = puts-as (walk-next x y level a b w.first w.second)
-              (puts-append (walk_bits x y level 0) (value_bits (a % 2 + 2 * (b % 2)) 2) w.kept k);
-          written = omega arith;
-          at = omega arith;
-          taken = omega arith;
-          flows = h;
-          sides = o;
-        }
+        let at1 = one.at in
+        let taken1 = one.taken in
+        record { flows = flow; sides = w.sides; at = omega arith; taken = omega arith; written = omega arith }
 
-    -- the last symbol
-    module _ (front' : List ℕ) (row : ℕ) (d : Coder) (low : a < 4) (low' : b < 4) (place : row ≡ row_of look base level)
-        (send : whole_of front' d ≡ coded cum row (a + 4 * b) (whole_of front c)) (flow : Flows front' d) (one : OneMore c d) where
-      walks-level : level ≡ level_of x y
-      walks-level = let e = level-none (13 - level) a b low low' in let few = w.few in omega arith
-
-      walks-symbol : a + 4 * b ≡ symbol_at x y (level_of x y)
-      walks-symbol = ap₂ (λ (i j : ℕ). i + 4 * j) w.first w.second ∙ ap (λ (l : ℕ). symbol_at x y l) walks-level
-
-      walks-sent : Sent (walk_items look cum base (symbol_at x y (level_of x y)) (level_of x y) 0) (walk_bits x y (level_of x y) 0)
-          front₀ front' side₀ side c₀ d p₀ p
-      walks-sent =
-          let l : ℕ = level_of x y in
-          let v : ℕ = symbol_at x y l in
-          let e = walks-level in
-          let n = walk-length x y l 0 in
-          let written = w.written in
-          record {
-            coder = rw (send, place, walks-symbol) (walk_end look cum base v l level (whole_of front c) e ∙ w.rest);
-            kept = puts-as (ap (λ (m : ℕ). walk_bits x y m 0) e) w.kept;
-            length = omega arith;
-          }
-
-      walks-sends : Sends (c₀.at + 28) (c₀.taken + 14) (p₀.at + 26) front' side d p
-      walks-sends =
-          let few = walks-few in
-          let written = w.written in
-          let at = w.at in
-          let taken = w.taken in
-          let at1 = one.at in
-          let taken1 = one.taken in
-          record { flows = flow; sides = w.sides; at = omega arith; taken = omega arith; written = omega arith }
-
-      pub walks-last : (level ≡ level_of x y)
-          × ((a + 4 * b ≡ symbol_at x y (level_of x y))
-          × ((a + 4 * b < 16)
-          × (Sent (walk_items look cum base (symbol_at x y (level_of x y)) (level_of x y) 0) (walk_bits x y (level_of x y) 0) front₀ front'
-          side₀ side c₀ d p₀ p
-          × Sends (c₀.at + 28) (c₀.taken + 14) (p₀.at + 26) front' side d p)))
-      walks-last = (walks-level, (walks-symbol, ((symbol-parts a b low low').2, (walks-sent, walks-sends))))
+    pub walks-last : (level ≡ level_of x y)
+        × ((a + 4 * b ≡ symbol_at x y (level_of x y))
+        × ((a + 4 * b < 16)
+        × (Sent (walk_items look cum base (symbol_at x y (level_of x y)) (level_of x y) 0) (walk_bits x y (level_of x y) 0) front₀ front'
+        side₀ side c₀ d p₀ p
+        × Sends (c₀.at + 28) (c₀.taken + 14) (p₀.at + 26) front' side d p)))
+    walks-last = (walks-level, (walks-symbol, ((symbol-parts a b low low').2, (walks-sent, walks-sends))))
 
 -- ---- a pair
 
