@@ -33,6 +33,16 @@ fn read_lates(s: &[u8], levels: &[u8], n: usize, lines: &mut [i32], start: usize
     }
 }
 
+// The first lines, as many as are lent. A loop for the C interface: copy_from_slice of so many would want memmove of its caller.
+fn copy(lines: &[i32], out: &mut [i32])
+    requires { length out.old ≤ length lines.now }
+    ensures { out.new ≡ take (length out.old) lines.now }
+{
+    for (i, x) in out.iter_mut().enumerate() {
+        *x = lines[i];
+    }
+}
+
 // After the last check: residual or late low bits, and what is read goes to the lent buffers; the number of residual bits.
 pub fn finish(
     s: &[u8],
@@ -60,13 +70,13 @@ pub fn finish(
     ensures small { Small spectrum.new }
     ensures upper_bound { result ≤ 400 }
 {
-    let n = spectrum.len();
     bits.fill(0);
     if lsb == 0 {
-        spectrum.copy_from_slice(&lines[..n]);
+        copy(lines, spectrum);
+        let n = bits.len();
         return frame_residual::read_residual(s, lines, p, left, n, bits);
     }
     read_lates(s, levels, last, lines, p, left);
-    spectrum.copy_from_slice(&lines[..n]);
+    copy(lines, spectrum);
     0
 }
