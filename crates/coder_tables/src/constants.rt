@@ -3,8 +3,8 @@
 
 // 5.9.6, Table 5.43, ac_spec_lookup: the row of ac_spec_cumfreq at context + 256 past line NE/2 + 512 rate offset + 1,024 min(level, 3)
 // Laid out by context (specs/Layout.antt): the standard's entry base + 1,024 level is entry 4 base + level here.
-// Why: a cache line has all levels of a context, and LLVM builds the array on the stack faster where no run of equal bytes is long.
-pub const LOOKUP: [u8; 4096] = *b"\
+// Why: a cache line has all levels of a context.
+pub static LOOKUP: [u8; 4096] = *b"\
     \x01\x0d\x00\x00\x27\x0d\x00\x00\x07\x0d\x00\x00\x19\x0d\x00\x00\x16\x0d\x00\x00\x16\x0d\x00\x00\x1c\x0d\x00\x00\x16\x0d\x00\x00\
     \x16\x3c\x00\x00\x16\x3c\x00\x00\x16\x3c\x00\x00\x1c\x3c\x00\x00\x1c\x3c\x00\x00\x1c\x3c\x0d\x00\x22\x3c\x0d\x00\x1f\x10\x0d\x00\
     \x1f\x10\x0d\x00\x28\x00\x00\x00\x2b\x00\x00\x00\x2e\x00\x00\x00\x31\x00\x00\x00\x34\x00\x00\x00\x0e\x00\x00\x00\x11\x00\x00\x00\
@@ -135,7 +135,7 @@ pub const LOOKUP: [u8; 4096] = *b"\
     \x22\x10\x3c\x00\x22\x10\x3c\x00\x22\x10\x3c\x00\x1f\x10\x3c\x00\x1f\x10\x3c\x00\x1f\x10\x3c\x00\x1f\x10\x3c\x00\x13\x25\x3c\x00";
 
 // 5.9.6, Table 5.43, ac_spec_cumfreq: a row for each number that ac_spec_lookup gives, of symbols 0 to 16 and 1,024 at the end
-pub const SPECTRUM: [u16; 1152] = [
+pub static SPECTRUM: [u16; 1152] = [
     // row 0
     0, 1, 2, 177, 225, 226, 227, 336, 372, 543, 652, 699, 719, 768, 804, 824, 834, 1024,
     // row 1
@@ -269,7 +269,7 @@ pub const SPECTRUM: [u16; 1152] = [
 ];
 
 // 5.9.4, ac_tns_order_cumfreq: a row for each tns_lpc_weighting, of orders 1 to 8 and 1,024 at the end
-pub const ORDER: [u16; 18] = [
+pub static ORDER: [u16; 18] = [
     // row 0
     0, 3, 12, 35, 89, 200, 390, 658, 1024,
     // row 1
@@ -277,7 +277,7 @@ pub const ORDER: [u16; 18] = [
 ];
 
 // 5.9.4, ac_tns_coef_cumfreq: a row for each coefficient's place, of indices 0 to 16 and 1,024 at the end
-pub const COEFFICIENTS: [u16; 144] = [
+pub static COEFFICIENTS: [u16; 144] = [
     // row 0
     0, 1, 6, 21, 52, 106, 192, 289, 409, 568, 720, 831, 935, 994, 1016, 1022, 1023, 1024,
     // row 1

@@ -12,29 +12,29 @@ ghost use Rattle.coder_tables.specs.Tables.{look_table, spectrum_table, order_ta
 mod constants;
 
 // The row of `spectrum` for each context, its four levels side by side.
-pub fn lookup() -> [u8; 4096]
-    ensures { result ≡ by_context look_table }
+pub fn lookup() -> &'static [u8; 4096]
+    ensures { result.now ≡ by_context look_table }
 {
-    constants::LOOKUP
+    &constants::LOOKUP
 }
 
 // 64 rows of the symbols 0 to 16.
-pub fn spectrum() -> [u16; 1152]
-    ensures { result ≡ spectrum_table }
+pub fn spectrum() -> &'static [u16; 1152]
+    ensures { result.now ≡ spectrum_table }
 {
-    constants::SPECTRUM
+    &constants::SPECTRUM
 }
 
 // A row of the orders 1 to 8 for each weighting.
-pub fn tns_order() -> [u16; 18]
-    ensures { result ≡ order_table }
+pub fn tns_order() -> &'static [u16; 18]
+    ensures { result.now ≡ order_table }
 {
-    constants::ORDER
+    &constants::ORDER
 }
 
 // A row of the indices 0 to 16 for each coefficient's place.
-pub fn tns_coefficients() -> [u16; 144]
-    ensures { result ≡ coefficient_table }
+pub fn tns_coefficients() -> &'static [u16; 144]
+    ensures { result.now ≡ coefficient_table }
 {
-    constants::COEFFICIENTS
+    &constants::COEFFICIENTS
 }

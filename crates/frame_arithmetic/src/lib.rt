@@ -43,8 +43,8 @@ pub fn read_arithmetic(
     let mut first = [0u8; 8];
     let mut second = [0u8; 8];
     let start = frame_coder::start(frame);
-    let order_0 = filter(frame, &orders, &rows, q, flags.tns_0, &mut first, start)?;
-    let order_1 = filter(frame, &orders, &rows, q, flags.tns_1, &mut second, order_0.next)?;
+    let order_0 = filter(frame, orders, rows, q, flags.tns_0, &mut first, start)?;
+    let order_1 = filter(frame, orders, rows, q, flags.tns_1, &mut second, order_0.next)?;
     let from = Streams {
         coder: order_1.next,
         side: p,

@@ -55,7 +55,7 @@ pub fn read_spectral(
         offset: frame_settings::rate_offset(r.index, frame.len()),
         half: r.lines / 2,
     };
-    let at = frame_pairs::read_pairs(frame, &look, &cum, o, last / 2, from, &mut x, &mut levels)?;
+    let at = frame_pairs::read_pairs(frame, look, cum, o, last / 2, from, &mut x, &mut levels)?;
     let left = frame_residual::bits_left(frame.len(), at.side, at.coder)?;
     let count = frame_finish::finish(
         frame, lsb, last, &mut x, &levels, at.side, left, spectrum, residual,

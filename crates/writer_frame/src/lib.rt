@@ -43,18 +43,10 @@ fn write_streams(
     let w = tns_weighting(r.duration, bytes);
     let p = put_side(r, f.side, side);
     let c = writer_stream::start(front);
-    let c1 = write_filter(
-        &orders,
-        &rows,
-        w,
-        usize::from(f.tns_order_0),
-        first,
-        c,
-        front,
-    );
+    let c1 = write_filter(orders, rows, w, usize::from(f.tns_order_0), first, c, front);
     let c2 = write_filter(
-        &orders,
-        &rows,
+        orders,
+        rows,
         w,
         usize::from(f.tns_order_1),
         second,
@@ -67,8 +59,8 @@ fn write_streams(
         half: r.lines / 2,
     };
     write_pairs(
-        &look,
-        &cum,
+        look,
+        cum,
         o,
         lines,
         usize::from(h.last_line) / 2,
