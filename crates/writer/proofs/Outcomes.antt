@@ -2,16 +2,15 @@
 use mathlib.Core.Path.{◌≡◌, refl, sym, ap, ap₂, subst, ◌∙◌}
 use mathlib.Core.Bool.{Bool, true, false, cond, ◌&&◌}
 use mathlib.Core.List.{List}
+use mathlib.Core.Logic.{◌⊎◌, inl, inr}
+use Rattle.std.specs.Prelude.{Some, None}
 use Prim.Native.Nat.{ℕ, ◌*◌, ◌≤◌, ◌<◌}
 use lib.Dec.{ltb, leb, eqb}
 use lib.ListN.{length}
 use lib.IntN.{ℤ}
 use borrow.Author.Tests.{lt-ltb, le-ltb, ltb-false, le-leb, lt-leb, leb-true, eqb-true, eq-eqb, ne_eqb}
-use Rattle.frame_settings.specs.Settings.{setting_of, Known, KnownSetting}
+use Rattle.frame_settings.specs.Settings.{setting_of, Known}
 use Rattle.frame_settings.specs.declared.Setting.{Setting}
-use Rattle.frame_settings.specs.declared.Settled.{Settled}
-use Rattle.frame_settings.specs.declared.Settled.TheVariants as settled
-use Rattle.frame_settings.proofs.Settings.{known-setting}
 use Rattle.frame_answers.specs.Answers as reading
 use Rattle.frame_arithmetic.specs.Answers.{Judged, Answers}
 use Rattle.frame.specs.Frame.{judged_of}
@@ -20,7 +19,7 @@ use Rattle.writer_laws.specs.Writing.{Given, needed_bits, sent_of, bytes_of}
 use Rattle.writer_laws.proofs.Digits.{length_digits}
 use Rattle.writer_steps.specs.Frames.{Writable}
 use Rattle.writer_back.proofs.Trip.{trip}
-use Rattle.writer.specs.Writer.{Outcome, wrote, refuses, written_fit, written_lines, written_sized, written_fields, written_at, written_of}
+use Rattle.writer.specs.Writer.{Outcome, wrote, refuses, written_fit, written_lines, written_sized, written_fields, written_of}
 use Rattle.writer.specs.Writer.{Told, telling, told_of, frame_after}
 use Rattle.writer.specs.Trip.{back_of, BackFrom, Writes, Returned}
 
@@ -46,34 +45,39 @@ module _ (r : Setting) (n : ℕ) (g : Given) (fit : fields_fit r g.fields g.firs
 pub lines-unfit : (r : Setting) (n : ℕ) (g : Given) → lines_fit g.fields g.lines g.residual ≡ false → written_lines r n g ≡ refuses 1
 lines-unfit r n g e = rw e
 
-pub too_small : (r : Setting) (n : ℕ) (g : Given) → lines_fit g.fields g.lines g.residual ≡ true → 8 * n < needed_bits r n g
+too_small : (r : Setting) (n : ℕ) (g : Given) → lines_fit g.fields g.lines g.residual ≡ true → 8 * n < needed_bits r n g
     → written_lines r n g ≡ refuses 8
 too_small r n g e h = rw (e, lt-ltb (8 * n) (needed_bits r n g) h)
 
-pub room_for : (r : Setting) (n : ℕ) (g : Given) → lines_fit g.fields g.lines g.residual ≡ true → needed_bits r n g ≤ 8 * n
+room_for : (r : Setting) (n : ℕ) (g : Given) → lines_fit g.fields g.lines g.residual ≡ true → needed_bits r n g ≤ 8 * n
     → written_lines r n g ≡ wrote (sent_of r n g) (bytes_of r n g)
 room_for r n g e h = rw (e, le-ltb (8 * n) (needed_bits r n g) h)
+
+-- by each test in turn up to the room
+module _ (r : Setting) (n : ℕ) (g : Given) (fit : fields_fit r g.fields g.first g.second ≡ true) (lines : length g.lines ≡ r.lines)
+    (residual : length g.residual ≡ r.lines) (fits : lines_fit g.fields g.lines g.residual ≡ true) where
+  pub whole-small : 8 * n < needed_bits r n g → written_fields r n g ≡ refuses 8
+  whole-small h = lines-reached r n g fit lines residual ∙ too_small r n g fits h
+
+  pub whole-room : needed_bits r n g ≤ 8 * n → written_fields r n g ≡ wrote (sent_of r n g) (bytes_of r n g)
+  whole-room h = lines-reached r n g fit lines residual ∙ room_for r n g fits h
 
 -- ---- of a rate and a duration
 
 module _ (khz q n : ℕ) (g : Given) where
-  pub written-unknown : setting_of khz q ≡ settled.Unknown → written_of khz q n g ≡ refuses 1
+  pub written-unknown : setting_of khz q ≡ None → written_of khz q n g ≡ refuses 1
   unfolding written_of
   written-unknown e = rw e
 
-module _ (khz q n : ℕ) (g : Given) (r : Setting) (known : setting_of khz q ≡ settled.Known r) where
-  pub written-short : n < 20 → written_of khz q n g ≡ refuses 1
+module _ (khz q n : ℕ) (g : Given) (r : Setting) (known : setting_of khz q ≡ Some r) where
+  pub written-unsized : (n < 20) ⊎ ((20 ≤ n) × (401 ≤ n)) → written_of khz q n g ≡ refuses 1
   unfolding written_of
-  written-short h = rw (known, lt-leb 20 n h)
+  written-unsized (inl h) = rw (known, lt-leb 20 n h)
+  written-unsized (inr h) = rw (known, le-leb 20 n h.0, lt-leb n 400 h.1)
 
-  module _ (least : 20 ≤ n) where
-    pub written-long : 401 ≤ n → written_of khz q n g ≡ refuses 1
-    unfolding written_of
-    written-long h = rw (known, le-leb 20 n least, lt-leb n 400 h)
-
-    pub written_known : n ≤ 400 → written_of khz q n g ≡ written_fields r n g
-    unfolding written_of
-    written_known h = rw (known, le-leb 20 n least, le-leb n 400 h)
+  pub written_known : 20 ≤ n → n ≤ 400 → written_of khz q n g ≡ written_fields r n g
+  unfolding written_of
+  written_known h k = rw (known, le-leb 20 n h, le-leb n 400 k)
 
 -- ---- what was written reads back
 
@@ -82,7 +86,7 @@ unfolding bytes_of
 length-bytes r n g = length_digits _ _
 
 -- of a known setting, by each test in turn
-module _ (khz q : ℕ) (r : Setting) (known : setting_of khz q ≡ settled.Known r) (n : ℕ) (g : Given) where
+module _ (khz q : ℕ) (r : Setting) (known : setting_of khz q ≡ Some r) (n : ℕ) (g : Given) where
   back-written : Writable r n g → needed_bits r n g ≤ 8 * n
       → judged_of khz q (bytes_of r n g) (length g.lines) (length g.residual) ≡ back_of khz q n g (sent_of r n g)
   unfolding judged_of back_of
@@ -138,15 +142,11 @@ module _ (khz q : ℕ) (r : Setting) (known : setting_of khz q ≡ settled.Known
   back-known k a b true false e f = tt
   back-known k a b false u e f = tt
 
-back-settled : (khz q : ℕ) (x : Settled) → setting_of khz q ≡ x → KnownSetting x → (n : ℕ) (g : Given) → length g.first ≡ 8
-    → length g.second ≡ 8 → BackFrom khz q n g (written_at x n g)
-back-settled khz q (settled.Known r) e k n g a b = back-known khz q r e n g k a b (leb 20 n) (leb n 400) refl refl
-back-settled khz q settled.Unknown e k n g a b = tt
-
 -- whatever is written reads back
-pub back_from : (khz q n : ℕ) (g : Given) → length g.first ≡ 8 → length g.second ≡ 8 → BackFrom khz q n g (written_of khz q n g)
+back_from : (khz q n : ℕ) (g : Given) (r : Setting) → setting_of khz q ≡ Some r → Known r → length g.first ≡ 8 → length g.second ≡ 8
+    → BackFrom khz q n g (written_of khz q n g)
 unfolding written_of
-back_from khz q n g a b = back-settled khz q (setting_of khz q) refl (known-setting khz q (setting_of khz q) refl).1 n g a b
+back_from khz q n g r e k a b = rw e (back-known khz q r e n g k a b (leb 20 n) (leb n 400) refl refl)
 
 -- and where it was written, that is what reading answers
 pub returned : (khz q n : ℕ) (g : Given) (frame : List ℕ) (o : Outcome) (a : reading.Given) (lines lines' : List ℤ) (bits bits' : List ℕ)
@@ -170,10 +170,11 @@ writes-refused khz q number g frame e = record {
 }
 
 -- an outcome, with the answer and the frame that it has
-pub writes_as : (khz q : ℕ) (g : Given) (frame frame' : List ℕ) (t : Told) (o : Outcome) → length g.first ≡ 8 → length g.second ≡ 8
-    → written_of khz q (length frame) g ≡ o → t ≡ told_of o → frame' ≡ frame_after o frame → Writes khz q g frame frame' t
-writes_as khz q g frame frame' t o a b e h k = record {
+pub writes_as : (khz q : ℕ) (g : Given) (frame frame' : List ℕ) (t : Told) (o : Outcome) (r : Setting) → setting_of khz q ≡ Some r
+    → Known r → length g.first ≡ 8 → length g.second ≡ 8 → written_of khz q (length frame) g ≡ o → t ≡ told_of o
+    → frame' ≡ frame_after o frame → Writes khz q g frame frame' t
+writes_as khz q g frame frame' t o r s m a b e h k = record {
   told = h ∙ ap told_of (sym e);
   bytes = k ∙ ap (λ (p : Outcome). frame_after p frame) (sym e);
-  back = back_from khz q (length frame) g a b;
+  back = back_from khz q (length frame) g r s m a b;
 }

@@ -1,8 +1,7 @@
 -- What is written reads back at the same settings, as what was given, with the residual bits that were sent. Assumes nothing.
-use Rattle.std.specs.Prelude.{◌≡◌, List, ℕ, length, ℤ}
+use Rattle.std.specs.Prelude.{◌≡◌, List, ℕ, length, ℤ, Option, Some, None}
 use Rattle.frame_settings.specs.Settings.{setting_of}
-use Rattle.frame_settings.specs.declared.Settled.{Settled}
-use Rattle.frame_settings.specs.declared.Settled.TheVariants as settled
+use Rattle.frame_settings.specs.declared.Setting.{Setting}
 use Rattle.frame_answers.specs.Answers as reading
 use Rattle.frame_arithmetic.specs.Answers.{Judged, accepted, Answers}
 use Rattle.frame.specs.Frame.{judged_of}
@@ -11,9 +10,9 @@ use Rattle.writer_back.specs.Back.{whole_back}
 use Rattle.writer.specs.Writer.{Outcome, wrote, refuses, written_of, Told, told_of, frame_after}
 
 -- the symbols of a frame of n bytes
-abbrev pub symbols_at : Settled → ℕ → Given → ℕ
-symbols_at (settled.Known r) n g = length (items_of r n g)
-symbols_at settled.Unknown n g = 0
+abbrev pub symbols_at : Option Setting → ℕ → Given → ℕ
+symbols_at (Some r) n g = length (items_of r n g)
+symbols_at None n g = 0
 
 -- what reading a written frame has to answer: accepted, all as given, and k residual bits
 unfoldable pub back_of : ℕ → ℕ → ℕ → Given → ℕ → Judged

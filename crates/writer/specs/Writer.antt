@@ -1,14 +1,12 @@
 -- A frame written, or refused by number in document 02's order (request 02 §5). Assumes nothing.
-use Rattle.std.specs.Prelude.{cond, ◌&&◌, List, ℕ, ◌*◌, ltb, eqb, length}
+use Rattle.std.specs.Prelude.{cond, ◌&&◌, List, ℕ, ◌*◌, ltb, eqb, length, Option, Some, None, Result, Ok, Err}
 use Rattle.frame_settings.specs.Settings.{setting_of}
 use Rattle.frame_settings.specs.declared.Setting.{Setting}
-use Rattle.frame_settings.specs.declared.Settled.{Settled}
-use Rattle.frame_settings.specs.declared.Settled.TheVariants as settled
 use Rattle.frame.specs.Frame.{sized}
 use Rattle.writer_laws.specs.Fits.{fields_fit, lines_fit}
 use Rattle.writer_laws.specs.Writing.{Given, needed_bits, sent_of, bytes_of}
-use Rattle.writer.specs.declared.Written.{Written}
-use Rattle.writer.specs.declared.Written.TheVariants as written
+use Rattle.refusals.specs.declared.Refusal.{Refusal}
+use Rattle.refusals.specs.Numbers.{refusal_number}
 
 -- accepted, with the number of residual bits sent and the frame; or refused, with document 01's number
 pub data Outcome : Type 0 where
@@ -33,9 +31,9 @@ abbrev pub written_fields : Setting → ℕ → Given → Outcome
 written_fields r n g = cond (fields_fit r g.fields g.first g.second) (written_sized r n g) (refuses 1)
 
 -- 1: a setting is out of range
-abbrev pub written_at : Settled → ℕ → Given → Outcome
-written_at settled.Unknown n g = refuses 1
-written_at (settled.Known r) n g = cond (sized n) (written_fields r n g) (refuses 1)
+abbrev pub written_at : Option Setting → ℕ → Given → Outcome
+written_at None n g = refuses 1
+written_at (Some r) n g = cond (sized n) (written_fields r n g) (refuses 1)
 
 -- of a rate, a duration, the frame's length, and what is to be written
 unfoldable pub written_of : ℕ → ℕ → ℕ → Given → Outcome
@@ -49,12 +47,10 @@ pub record Told : Type 0 where
 abbrev pub telling : ℕ → ℕ → Told
 telling number residual = record { number = number; residual = residual }
 
--- document 01's number and value for each case of the answer
-abbrev pub answered : Written → Told
-answered (written.Sent k) = telling 0 k
-answered written.Setting = telling 1 0
-answered written.Length = telling 2 0
-answered written.TooSmall = telling 8 0
+-- document 01's number and value of the answer
+abbrev pub answered : Result ℕ Refusal → Told
+answered (Ok k) = telling 0 k
+answered (Err why) = telling (refusal_number why) 0
 
 abbrev pub told_of : Outcome → Told
 told_of (wrote k s) = telling 0 k

@@ -14,33 +14,10 @@ ghost use Rattle.writer.specs.Writer.{written_fields, told_of, frame_after, answ
 ghost use Rattle.writer.specs.Trip.{Writes, Returned};
 
 use frame::{Fields, Reading};
-use frame_settings::{Setting, Settled};
+use frame_settings::{Setting, setting_of};
+pub use refusals::Refusal;
 use writer_fits::{fields_fit, lines_fit};
 use writer_frame::write_fitting;
-use writer_steps::FrameSent;
-
-// The number of residual bits sent, the first ones; or document 01's refusal 1, 2 or 8.
-#[derive(Clone, Copy)]
-pub enum Written {
-    Sent(u16),
-    Setting,
-    Length,
-    TooSmall,
-}
-
-impl Written {
-    // Document 01's number.
-    pub fn number(self) -> u8
-        ensures { result ≡ (answered self).number }
-    {
-        match self {
-            Written::Sent(_) => 0,
-            Written::Setting => 1,
-            Written::Length => 2,
-            Written::TooSmall => 8,
-        }
-    }
-}
 
 // The fields, the two lent buffers, then the lines and residual bits.
 fn write_sized(
@@ -51,7 +28,7 @@ fn write_sized(
     spectrum: &[i32],
     residual: &[u8],
     frame: &mut [u8],
-) -> Written
+) -> Result<u16, Refusal>
     requires known { Known r }
     requires in_bounds { 20 ≤ length frame.old }
     requires frame_len_bound { length frame.old ≤ 400 }
@@ -65,25 +42,25 @@ fn write_sized(
         (given f first.now second.now spectrum.now residual.now)) frame.old }
 {
     if !fields_fit(r, f, first, second) {
-        return Written::Setting;
+        return Err(Refusal::Setting);
     }
     let lines = r.lines;
     if spectrum.len() != lines {
-        return Written::Length;
+        return Err(Refusal::Length);
     }
     if residual.len() != lines {
-        return Written::Length;
+        return Err(Refusal::Length);
     }
     if !lines_fit(f, spectrum, residual) {
-        return Written::Setting;
+        return Err(Refusal::Setting);
     }
-    match write_fitting(r, f, first, second, spectrum, residual, frame) {
-        FrameSent::TooSmall => Written::TooSmall,
-        FrameSent::Sent(k) => Written::Sent(k as u16),
-    }
+    let written = write_fitting(r, f, first, second, spectrum, residual, frame);
+    let sent = written.ok_or(Refusal::TooSmall)?;
+    Ok(sent as u16)
 }
 
-// One frame of so many bytes as are lent, by clause 5.3.14; the duration is in quarter milliseconds.
+// One frame of so many bytes as are lent, by clause 5.3.14; the duration is in quarter milliseconds. The number of residual bits sent, the
+// first ones.
 pub fn write(
     khz: u32,
     duration: u32,
@@ -93,28 +70,25 @@ pub fn write(
     spectrum: &[i32],
     residual: &[u8],
     frame: &mut [u8],
-) -> Written
+) -> Result<u16, Refusal>
     ensures { Writes khz duration
         (given fields tns_coefficients_0 tns_coefficients_1 spectrum.now residual.now)
         frame.old frame.new (answered result) }
 {
-    let settled = frame_settings::setting_of(khz, duration);
-    let Settled::Known(r) = settled else {
-        return Written::Setting;
-    };
+    let r = setting_of(khz, duration).ok_or(Refusal::Setting)?;
     let n = frame.len();
-    match n {
-        20..=400 => write_sized(
-            r,
-            fields,
-            &tns_coefficients_0,
-            &tns_coefficients_1,
-            spectrum,
-            residual,
-            frame,
-        ),
-        _ => Written::Setting,
+    if n < 20 || 400 < n {
+        return Err(Refusal::Setting);
     }
+    write_sized(
+        r,
+        fields,
+        &tns_coefficients_0,
+        &tns_coefficients_1,
+        spectrum,
+        residual,
+        frame,
+    )
 }
 
 // The round trip of the running code: a frame is written, and what then stands in the lent frame is read.
@@ -129,7 +103,7 @@ pub fn write_and_read(
     frame: &mut [u8],
     lines: &mut [i32],
     bits: &mut [u8],
-) -> Reading
+) -> Result<Reading, Refusal>
     ensures frame_after { frame.new
         ≡ frame_after (written_of khz duration (length frame.old)
         (given fields tns_coefficients_0 tns_coefficients_1 spectrum.now residual.now)) frame.old }
@@ -141,7 +115,7 @@ pub fn write_and_read(
         (written_of khz duration (length frame.old)
         (given fields tns_coefficients_0 tns_coefficients_1 spectrum.now residual.now)) }
 {
-    write(
+    let _ = write(
         khz,
         duration,
         fields,

@@ -17,7 +17,7 @@ use Rattle.frame_coder.specs.declared.Coder.{Coder}
 use Rattle.frame_settings.specs.Settings.{Known, rate_offset}
 use Rattle.frame_settings.specs.declared.Setting.{Setting}
 use Rattle.frame_side.specs.declared.Head.{Head}
-use Rattle.frame_pair.specs.Pair.{Streams}
+use Rattle.frame_pair.specs.declared.Streams.{Streams}
 use Rattle.frame_pairs.specs.Pairs.{Spectrum, spectrum_given}
 use Rattle.frame_pairs.specs.Sound.{Small}
 use Rattle.frame_pairs.specs.declared.PairSetting.{PairSetting}

@@ -68,7 +68,8 @@ module _ {r : Setting} {n : ℕ} {g : Given} {front side : List ℕ} (e : PairsS
       (omega arith, omega arith)
 
   -- no bit is left
-  pub none_left : (o : Result ℕ Cause) → left_given o e.side.at ≡ left_of n e.side.at e.coder → result_ok o ≡ None → 8 * n < needed_bits r n g
+  pub none_left : (o : Result ℕ Cause) → left_given o e.side.at ≡ left_of n e.side.at e.coder → result_ok o ≡ None
+      → 8 * n < needed_bits r n g
   none_left (Ok k) f i = cc
   none_left (Err why) f i = rw used-is at (left-says n e.side.at e.coder (Err why) f)
 
