@@ -3,7 +3,7 @@
 // length.
 #![tactic(auto)]
 
-ghost use Rattle.std.specs.Prelude.{◌≡◌, ℕ, ◌+◌, ◌*◌, ◌≤◌, ◌<◌, length, get_or, take, drop};
+ghost use Rattle.std.specs.Prelude.{◌≡◌, ℕ, ◌+◌, ◌*◌, ◌≤◌, ◌<◌, length, get_or};
 ghost use Rattle.laws.specs.Tab.{Below};
 ghost use Rattle.code_word_laws.specs.Checks.{summed};
 ghost use Rattle.slot_laws.specs.Sizes.{data_length};
@@ -35,14 +35,6 @@ pub fn signature_row(mode: usize, i: usize) -> [u8; 15]
         3 => THREE,
         _ => FOUR,
     }
-}
-
-// A part of a row, as long as there is room for.
-pub fn copy_part(from: &[u8], at: usize, out: &mut [u8])
-    requires { at + length out.old ≤ length from.now }
-    ensures { out.new ≡ take (length out.old) (drop at from.now) }
-{
-    out.copy_from_slice(&from[at..at + out.len()]);
 }
 
 // The place in the slot of semi-octet k of word i (A.51).

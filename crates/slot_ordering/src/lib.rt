@@ -94,7 +94,7 @@ fn put_in_front(size: usize, mode: usize, request: u32, out: &mut [u8])
     let h = slot_sizes::heading_size(size, mode);
     let mut head = [0u8; 10];
     put_heading(size, mode, request, &out[h..], &mut head[..h]);
-    out[..h].copy_from_slice(&head[..h]);
+    copying::copy(&mut out[..h], &head[..h]);
 }
 
 // The data of a slot (A.16 to A.37).

@@ -6,6 +6,6 @@ use Rattle.slot_ordering.proofs.put_in_front.Goals as goal
 pub returns : goal.returns
 returns c =
     let a = c.args in
-    front-is a.size a.mode a.request c.heading_size-h.result a.out.now c.put_heading.new.out c.copy_from_slice.new.self
+    front-is a.size a.mode a.request c.heading_size-h.result a.out.now c.put_heading.new.out c.copy.new.to
     (drop c.heading_size-h.result blank) c.heading_size-h.ensures.is c.requires.out_len c.put_heading.ensures
-    c.copy_from_slice.ensures.after
+    c.copy.ensures
