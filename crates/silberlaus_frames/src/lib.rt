@@ -10,7 +10,7 @@ ghost use Rattle.frame_arithmetic.specs.Answers.{Answers};
 ghost use Rattle.frame_arithmetic.specs.Sound.{Bounded};
 ghost use Rattle.silberlaus_frames.specs.Frames.{given, frame_given};
 
-use frame::{Answer, Fields, Flags, Head, Reading, Shape, Side, Tail};
+use frame::{Fields, Flags, Head, Reading, Refusal, Shape, Side, Tail};
 
 // C's silberlaus_frame.
 #[repr(C)]
@@ -124,17 +124,12 @@ pub fn unread(number: u8) -> SilberlausFrame
 }
 
 // The answer of the frame reader, by document 01's numbers.
-pub fn numbered(r: Reading) -> SilberlausFrame
-    ensures { frame_given result ≡ told r }
+pub fn numbered(answer: Result<Reading, Refusal>) -> SilberlausFrame
+    ensures { frame_given result ≡ told answer }
 {
-    let first = r.tns_coefficients_0;
-    let second = r.tns_coefficients_1;
-    let answer = r.answer;
     match answer {
-        Answer::Read(f) => flattened(0, 0, f, first, second),
-        Answer::Setting => flattened(1, 0, no_fields(), first, second),
-        Answer::Length => flattened(2, 0, no_fields(), first, second),
-        Answer::BitError(k) => flattened(5, k, no_fields(), first, second),
+        Ok(r) => flattened(0, 0, r.fields, r.tns_coefficients_0, r.tns_coefficients_1),
+        Err(why) => flattened(why.number(), why.cause(), no_fields(), [0; 8], [0; 8]),
     }
 }
 
