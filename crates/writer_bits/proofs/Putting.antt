@@ -7,10 +7,12 @@ use native.Mathlib.Numerals.{add-one}
 use native.Mathlib.Nat.{div-eq_of_lt}
 use native.Mathlib.Omega.{arith}
 use lib.Dec.{ltb, eqb}
-use lib.ListN.{length, get_or, set, take, replicate, length-append, length-set, length-replicate}
+use lib.ListN.{length, get_or, set, take, drop, replicate, length-append, length-replicate}
 use lib.Seq.{get_or-set_same, get_or-set_other, take-suc}
 use lib.Pow.{shr-shr, pow_mono}
 use borrow.Author.Tests.{ltb-true, ltb-false, eqb-true, eqb-false}
+use borrow.Rule.Slice.PartMut.{put_mid}
+use Rattle.std.proofs.lemmas.List.{length-drop, length-take-le, get_or-take, get_or_append_left, get_or-append_right, get_or-drop}
 use Rattle.frame_bits.specs.Fields.{value_bits}
 use Rattle.writer_laws.specs.SideBits.{number_of}
 use Rattle.writer_steps.specs.Cursors.{Open, Kept, Puts, Closes}
@@ -25,34 +27,32 @@ pub record Filled (old : List ℕ) (b h : ℕ) (s : List ℕ) (j : ℕ) : Type 0
   pub full : (i : ℕ) → b ≤ i → i < j → get_or s i 0 ≡ h / 2 ^ (8 * (i - b)) % 256
   pub behind : (i : ℕ) → j ≤ i → get_or s i 0 ≡ get_or old i 0
 
-pub filled-first : (old : List ℕ) (b h : ℕ) → Filled old b h old b
-filled-first old b h = record { room = refl; before = λ i k. refl; full = λ i k l. absurd (omega arith); behind = λ i k. refl }
-
-pub filled_next : (old : List ℕ) (b h : ℕ) (s : List ℕ) (j x : ℕ) → Filled old b h s j → b ≤ j → j < length old
-    → x ≡ h / 2 ^ (8 * (j - b)) → Filled old b h (set s j (x % 256)) (j + 1)
-filled_next old b h s j x f k l e =
-    let r = f.room in
+-- the bytes put from byte b on
+pub filled-mid : (old items : List ℕ) (b n h : ℕ) → b + n ≤ length old → length items ≡ n
+    → ((i : ℕ) → i < n → get_or items i 0 ≡ h / 2 ^ (8 * i) % 256) → Filled old b h (put_mid b n old items) (b + n)
+filled-mid old items b n h room long full =
+    let rest : List ℕ = drop n (drop b old) in
+    let t = length-take-le b old (omega arith) in
+    let u = length-append (take b old) (items ++ rest) in
+    let v = length-append items rest in
+    let w = length-drop n (drop b old) in
+    let z = length-drop b old in
     record {
-      room = length-set s j (x % 256) ∙ r;
-      before = λ i m. get_or-set_other s j i (x % 256) 0 (omega arith) ∙ f.before i m;
-      full = λ i m n. go i m n (eqb i j) refl;
-      behind = λ i m. get_or-set_other s j i (x % 256) 0 (omega arith) ∙ f.behind i (omega arith);
+      room = omega arith;
+      before = λ i k. get_or_append_left (take b old) (items ++ rest) 0 i (omega arith) ∙ get_or-take b old i 0 k;
+      full = λ i k l. get_or-append_right (take b old) (items ++ rest) b i 0 t k
+          ∙ get_or_append_left items rest 0 (i - b) (omega arith) ∙ full (i - b) (omega arith);
+      behind = λ i k. get_or-append_right (take b old) (items ++ rest) b i 0 t (omega arith)
+          ∙ get_or-append_right items rest n (i - b) 0 long (omega arith) ∙ get_or-drop n (drop b old) (i - b - n) 0
+          ∙ get_or-drop b old (n + (i - b - n)) 0
+          ∙ (let e : b + (n + (i - b - n)) ≡ i = omega arith in ap (λ (x : ℕ). get_or old x 0) e);
     }
-  where
-    go : (i : ℕ) → b ≤ i → i < j + 1 → (t : Bool) → eqb i j ≡ t → get_or (set s j (x % 256)) i 0 ≡ h / 2 ^ (8 * (i - b)) % 256
-    go i m n true t =
-        let r = f.room in
-        let d = eqb-true i j t in
-        rw d (get_or-set_same s j (x % 256) 0 (omega arith) ∙ ap (λ (y : ℕ). y % 256) e)
-    go i m n false t =
-        let d = eqb-false i j t in
-        get_or-set_other s j i (x % 256) 0 d ∙ f.full i m (omega arith)
 
 -- what is held is the rest of h
-pub held_next : (h j b x : ℕ) → b ≤ j → x ≡ h / 2 ^ (8 * (j - b)) → x / 256 ≡ h / 2 ^ (8 * (j + 1 - b))
-held_next h j b x k e =
-    let t : 8 * (j - b) + 8 ≡ 8 * (j + 1 - b) = omega arith in
-    ap (λ (y : ℕ). y / 256) e ∙ shr-shr h (8 * (j - b)) 8 ∙ ap (λ (y : ℕ). h / 2 ^ y) t
+pub held_next : (h k x : ℕ) → x ≡ h / 2 ^ (8 * k) → x / 256 ≡ h / 2 ^ (8 * (k + 1))
+held_next h k x e =
+    let t : 8 * k + 8 ≡ 8 * (k + 1) = omega arith in
+    ap (λ (y : ℕ). y / 256) e ∙ shr-shr h (8 * k) 8 ∙ ap (λ (y : ℕ). h / 2 ^ y) t
 
 -- so that the value's bits stand behind those that were there
 pub put-done :

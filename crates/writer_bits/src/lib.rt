@@ -23,8 +23,8 @@ pub fn put(v: usize, w: usize, c: Cursor, side: &mut [u8]) -> Cursor
     let at = c.at;
     let old = c.held;
     let mut held = old + (v << (at % 8));
-    for j in at / 8..(at + w) / 8 {
-        side[j] = (held % 256) as u8;
+    for b in side[at / 8..(at + w) / 8].iter_mut() {
+        *b = (held % 256) as u8;
         held = held / 256;
     }
     Cursor { at: at + w, held }
