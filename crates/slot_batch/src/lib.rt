@@ -1,4 +1,4 @@
-// Many slots of one size and mode at once: the tables and the room that unprotecting needs are made once for all of them.
+// Many slots of one size and mode at once: the room that unprotecting needs is made once for all of them.
 // Promised for every input: for each slot the four entries and the frame's place hold what `slot::unprotect` gives for that slot alone, by
 // the same definition, whatever the slots beside it are; or 1 or 2, and nothing is done. specs/Each.antt of `slot_each` says it.
 #![tactic(auto)]

@@ -1,5 +1,5 @@
-// The slots of one size and mode that stand end to end, unprotected one after the other with the same tables and in the same room.
-// Inner: `slot_room` stands over it. It asks for a size and a mode in range, for buffers that fit, for the tables and for room.
+// The slots of one size and mode that stand end to end, unprotected one after the other in the same room.
+// Inner: `slot_room` stands over it. It asks for a size and a mode in range, for buffers that fit and for room.
 #![tactic(auto)]
 
 ghost use Rattle.std.specs.Prelude.{length};
@@ -9,13 +9,11 @@ ghost use Rattle.slot_each.specs.Inner.{EachTo};
 
 use slot_answers::Reception;
 
-// Every slot's answer and frame, with the tables and the room for all of them.
+// Every slot's answer and frame, with the room for all of them.
 pub fn each(
     size: usize,
     mode: usize,
     slots: &[u8],
-    rows: &[u32; 208],
-    t: &[u32; 512],
     places: &mut [u8],
     all: &mut [u8],
     changes: &mut [u8],
@@ -27,7 +25,7 @@ pub fn each(
     bits: &mut [u16],
     frames: &mut [u8],
 )
-    requires lent { Lent size mode rows.now t.now places.old all.old changes.old ones.old message.old }
+    requires lent { Lent size mode places.old all.old changes.old ones.old message.old }
     requires fits { Fits size mode slots.now (five numbers.old requests.old counts.old bits.old frames.old) }
     ensures { EachTo size mode (length numbers.old) slots.now
         (five numbers.old requests.old counts.old bits.old frames.old)
@@ -43,8 +41,6 @@ pub fn each(
             size,
             mode,
             &slots[at..end],
-            rows,
-            t,
             places,
             all,
             changes,

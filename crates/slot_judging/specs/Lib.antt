@@ -1,2 +1,2 @@
--- The tables and the room that are lent: no part of what is right of a slot.
+-- The room that is lent: no part of what is right of a slot.
 pub mod Inner

@@ -1,4 +1,4 @@
-// The tables and the cleared room for the slots of a batch, made once and lent to all of them.
+// The cleared room for the slots of a batch, made once and lent to all of them.
 // Inner: `slot_batch` stands over it. It asks for a size and a mode in range and for buffers that fit.
 #![tactic(auto)]
 
@@ -7,7 +7,7 @@ ghost use Rattle.slot_laws.specs.Sizes.{InRange};
 ghost use Rattle.slot_each.specs.Each.{five, Fits};
 ghost use Rattle.slot_each.specs.Inner.{EachTo};
 
-// Every slot's answer and frame: the tables and the room are made here, once.
+// Every slot's answer and frame: the room is made here, once.
 pub fn unprotect_fitting(
     size: usize,
     mode: usize,
@@ -26,8 +26,6 @@ pub fn unprotect_fitting(
 {
     let count = slot_sizes::word_count(size);
     let e = slot_sizes::data_size(size, mode);
-    let rows = code_word::check_rows(mode as u32);
-    let t = code_word_syndromes::table();
     let mut places = [0u8; 800];
     let mut all = [0u8; 800];
     let mut changes = [0u8; 54];
@@ -37,8 +35,6 @@ pub fn unprotect_fitting(
         size,
         mode,
         slots,
-        &rows,
-        &t,
         &mut places[..2 * size],
         &mut all[..2 * size],
         &mut changes[..count],

@@ -11,7 +11,7 @@ abbrev pub invariant-loop-i : goal.invariant-loop-i
 invariant-loop-i l = record {
   slot_place : l.at ≡ l.i * l.size;
   frame_place : l.put ≡ l.i * frame_size l.size l.mode;
-  lent : Lent l.size l.mode l.rows l.t l.places l.all l.changes l.ones l.message;
+  lent : Lent l.size l.mode l.places l.all l.changes l.ones l.message;
   each_to : EachTo l.size l.mode l.i l.slots (five l.initial.numbers l.initial.requests l.initial.counts l.initial.bits l.initial.frames)
       (five l.numbers l.requests l.counts l.bits l.frames);
 }

@@ -13,7 +13,6 @@ correct-requires c = let r = c.requires.lent.rooms in
     let places = c.clean.new.places in record {
       semi_octets_of = unpacked-whole c.args.size c.args.slot.now places c.requires.slot_len c.clean.ensures.places_after
           c.requires.lent.range;
-      table = c.requires.lent.table;
       rooms = record { many = r.many; many_bits = r.many_bits; given = c.clean.ensures.fact };
       all_len = c.requires.lent.all_long;
     }

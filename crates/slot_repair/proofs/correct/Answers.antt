@@ -61,7 +61,7 @@ pub correct_words-requires : goal.correct_words-requires
 correct_words-requires c =
     let m = c.requires.rooms in
     record {
-      table_for = record { table = c.requires.table; most_from = omega arith; most_to = omega arith };
+      sought = record { most_from = omega arith; most_to = omega arith };
       dealt = dealt (goal.at.correct_words-requires c).After-word_length-long;
       semi_octets = semi-octets-of c.receive_all.new.all c.receive_all.ensures.below;
       bits_len = m.many_bits ∙ sym m.many;

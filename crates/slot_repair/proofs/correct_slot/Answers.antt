@@ -25,9 +25,8 @@ pub slice_bounds-clean-end : goal.slice_bounds-clean-end
 slice_bounds-clean-end c = sym (length-take-le (2 * c.args.size) blanks (omega arith))
 
 pub clean-requires : goal.clean-requires
-clean-requires c = let r = c.requires.range in record {
+clean-requires c = record {
   slot_and_data = c.requires;
-  rows_value = c.check_rows-rows.ensures.inside r.mode_from r.mode_to;
   places_len = length-take-le (2 * c.args.size) blanks (omega arith);
 }
 

@@ -24,7 +24,6 @@ pub correct-requires : goal.correct-requires
 correct-requires c =
     let many = room-for c.word_count-count.result c.word_count-count.ensures.upper_bound ∙ c.word_count-count.ensures.value in record {
       semi_octets_of = c.requires.semi_octets_of;
-      table = c.table-t.ensures;
       rooms = record { many = many; many_bits = many; given = c.requires.fact };
       all_len = length-take-le (2 * c.args.size) blanks (omega arith);
     }
