@@ -62,7 +62,11 @@ pub fn correct(word: &mut [u8], mode: u32) -> Result<Correction, Refusal>
     if !code_word_settings::semi_octets(word, 0) {
         return Err(Refusal::Setting);
     }
-    code_word_corrector::correct_word(word, (mode - 1) as u8).ok_or(Refusal::Beyond)
+    let both = code_word_corrector::correct_word(word, (mode - 1) as u8).ok_or(Refusal::Beyond)?;
+    Ok(Correction {
+        count: (both % 16) as u8,
+        bits: (both / 16) as u8,
+    })
 }
 
 // Corrects as many words as there are counts, with the semi-octets in one buffer and the bits in another: the words stand one after the

@@ -1,5 +1,5 @@
 // What correcting a word found: the counts of changed semi-octets and of changed bits, and those that C is told (specs/Answers.antt).
-// Inner: `code_word` and `code_word_corrector` stand over it, and `code_word` hands it on to callers. It asks nothing.
+// Inner: `code_word` stands over it and hands it on to callers. It asks nothing.
 #![tactic(auto)]
 
 // The counts of changed semi-octets and of changed bits of a corrected word.

@@ -14,7 +14,6 @@ use lib.Seq.{get_or-set_same, get_or-set_other, length-take-le, take_at, drop_at
 use borrow.Author.Tests.{eqb-true, eqb-false, ltb-true, ltb-false}
 use Rattle.std.specs.Prelude.{Option, Some, None, MatchOption}
 use Rattle.std.specs.Option.{unwrap_or}
-use Rattle.code_word_answers.specs.declared.Correction.{Correction}
 use Rattle.code_word_laws.specs.Word.{SemiOctets}
 use Rattle.code_word_laws.specs.Correct.{WordCorrected, length_at, start_at}
 use Rattle.code_word_laws.specs.Corrector.{Dealt}
@@ -146,8 +145,20 @@ dealt-is i d e = e ∙ ap₂ (λ (x y : ℕ). cond (ltb i x) (y + 1) y) d.rest d
 -- ---- the counts of a word
 
 -- those that are left of a word are its own, or t + 1 and 0 where it has none
-pub told : (t : ℕ) (old new : List ℕ) (r : Option Correction) (f : Correction) → f ≡ unwrap_or r (record { count = t + 1; bits = 0 })
-    → MatchOption r (WordCorrected (t + 1) old new (t + 1) 0) (λ c. (c.count ≤ t) × WordCorrected (t + 1) old new c.count c.bits)
-    → WordCorrected (t + 1) old new f.count f.bits
-told t old new None f e m = rw e m
-told t old new (Some c) f e m = rw e m.1
+pub told : (t : ℕ) (old new : List ℕ) (r : Option ℕ) (f : ℕ) → t ≤ 3 → f ≡ unwrap_or r (t + 1)
+    → MatchOption r (WordCorrected (t + 1) old new (t + 1) 0)
+    (λ both. (both ≤ 975) × (both % 16 ≤ t) × WordCorrected (t + 1) old new (both % 16) (both / 16))
+    → WordCorrected (t + 1) old new (f % 16) (f / 16)
+told t old new None f l e m =
+    let n : f % 16 ≡ t + 1 = omega arith in
+    let b : f / 16 ≡ 0 = omega arith in
+    rw (n, b) m
+told t old new (Some both) f l e m = rw e m.2
+
+-- .. and small enough for a byte
+pub told-small : (t : ℕ) (old new : List ℕ) (r : Option ℕ) (f : ℕ) → t ≤ 3 → f ≡ unwrap_or r (t + 1)
+    → MatchOption r (WordCorrected (t + 1) old new (t + 1) 0)
+    (λ both. (both ≤ 975) × (both % 16 ≤ t) × WordCorrected (t + 1) old new (both % 16) (both / 16))
+    → f ≤ 975
+told-small t old new None f l e m = omega arith
+told-small t old new (Some both) f l e m = rw e m.0

@@ -9,43 +9,31 @@ ghost use Rattle.code_word_laws.specs.Word.{SemiOctets};
 ghost use Rattle.code_word_laws.specs.Correct.{WordCorrected, EachCorrected};
 ghost use Rattle.code_word_laws.specs.Corrector.{Sought, WordFor, Dealt};
 
-use code_word_answers::Correction;
 use code_word_errors::{accepted, correct_one, take_off};
 use code_word_locator::error_word;
 use code_word_syndromes::{both_counts, clear, syndromes};
 
-// Both counts of the errors that were taken off, from one number.
-fn counted(both: u32) -> Correction
-    requires { both ≤ 975 }
-    ensures count { result.count ≡ both % 16 }
-    ensures bits { result.bits ≡ both / 16 }
-{
-    Correction {
-        count: (both % 16) as u8,
-        bits: (both / 16) as u8,
-    }
-}
-
-// Corrects one word with a lent table, and answers its counts, or none where no valid word is near, and then the word is as it was lent.
-pub fn correct_word(word: &mut [u8], most: u8) -> Option<Correction>
+// Corrects one word, and answers its changed semi-octets and 16 times its changed bits, or none where no valid word is near, and then the
+// word is as it was lent. Both counts in one number: a struct of them goes through memory, a third more time a word.
+pub fn correct_word(word: &mut [u8], most: u8) -> Option<u32>
     requires { WordFor word.old most }
     ensures { MatchOption result (WordCorrected (most + 1) word.old word.new (most + 1) 0)
-        (λ found. (found.count ≤ most) × WordCorrected (most + 1) word.old word.new found.count found.bits) }
+        (λ both. (both ≤ 975) × (both % 16 ≤ most) × WordCorrected (most + 1) word.old word.new (both % 16) (both / 16)) }
 {
     let s = syndromes(word);
     if clear(s, most) {
-        return Some(Correction { count: 0, bits: 0 });
+        return Some(0);
     }
     if let Some(v) = correct_one(word, s, most) {
-        return Some(counted(both_counts(v)));
+        return Some(both_counts(v));
     }
     let e = error_word(s, most);
-    let found = counted(take_off(word, e));
-    if !accepted(word, most, found.count) {
+    let both = take_off(word, e);
+    if !accepted(word, most, (both % 16) as u8) {
         take_off(word, e);
         return None;
     }
-    Some(found)
+    Some(both)
 }
 
 // The length of word i: one more for the words that come first.
@@ -56,7 +44,7 @@ fn dealt(long: usize, over: usize, i: usize) -> usize
     if i < over { long + 1 } else { long }
 }
 
-// Corrects each word with a lent table, and leaves its counts, or t + 1 and 0 where it has none.
+// Corrects each word, and leaves its counts, or t + 1 and 0 where it has none.
 pub fn correct_words(
     words: &mut [u8],
     long: usize,
@@ -74,13 +62,9 @@ pub fn correct_words(
     let mut at = 0;
     for i in 0..counts.len() {
         let end = at + dealt(long, over, i);
-        let none = Correction {
-            count: most + 1,
-            bits: 0,
-        };
-        let found = correct_word(&mut words[at..end], most).unwrap_or(none);
-        counts[i] = found.count;
-        bits[i] = found.bits;
+        let both = correct_word(&mut words[at..end], most).unwrap_or(most as u32 + 1);
+        counts[i] = (both % 16) as u8;
+        bits[i] = (both / 16) as u8;
         at = end;
     }
 }
