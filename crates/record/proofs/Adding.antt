@@ -1,6 +1,7 @@
 -- Adding an entry: from what the walk finds to the answer and the buffer that is left, over the form. Assumes nothing.
 use mathlib.Core.Path.{◌≡◌, refl, sym, ap, ◌∙◌}
-use mathlib.Core.Bool.{Bool, true, false, ◌&&◌, and-true, and-false}
+use mathlib.Core.Bool.{Bool, true, false, ◌&&◌, and-false}
+use mathlib.Core.Logic.{◌⊎◌, inl, inr}
 use mathlib.Core.Option.{some}
 use mathlib.Core.List.{List, [], ◌∷◌, ◌++◌, append_assoc}
 use Prim.Native.Nat.{ℕ, suc, ◌+◌, ◌-◌, ◌≤◌, ◌<◌}
@@ -9,10 +10,10 @@ use native.Mathlib.Omega.{arith}
 use lib.Dec.{leb, ltb, eqb}
 use lib.ListN.{length, get_or, take, drop, length-append, length-take, get_or-eq_default}
 use lib.Seq.{take_at, take-take, length-take-le, get_or-take}
-use borrow.Author.Tests.{leb-true, le-leb, lt-leb, ltb-true, ltb-false, eqb-true, eq-eqb, ne_eqb}
+use borrow.Author.Tests.{leb-true, le-leb, lt-leb, ltb-true, ltb-false, eqb-true}
 use Rattle.record_forms.specs.declared.Form.{Form}
 use Rattle.record_forms.specs.Forms.{trailer_size, end_size}
-use Rattle.record_bytes.specs.declared.Walked.TheVariants as walked
+use Rattle.std.specs.Prelude.{None}
 use Rattle.record_bytes.specs.Layout.{
   RecordEntry,
   trailer,
@@ -26,33 +27,14 @@ use Rattle.record_bytes.specs.Layout.{
 }
 use Rattle.record_forms.specs.Ranges.{in_range}
 use Rattle.record_bytes.specs.Reading.{read_record}
-use Rattle.record_bytes.specs.Steps.{walk_of, put}
-use Rattle.record_answers.specs.Answers.{accepted, refused}
+use Rattle.record_bytes.specs.Steps.{whole, walk_of, put}
+use Rattle.record_bytes.specs.Answers.{accepted, refused}
 use Rattle.record.specs.Answers.{may_add_to, may_add, used_with, has_room, add_answer, add_buffer}
 use Rattle.record_bytes.proofs.Numbers.{Bytes}
 use Rattle.record_forms.proofs.Ranges.{and_left, and_right, bits_fit, in-range-of}
 use Rattle.record_bytes.proofs.Inverse.{length-trailer, length-entry, length-end, entries-one, length-one, count_most, is_read}
 use Rattle.record_bytes.proofs.Walking.{whole-read, none_read}
 use Rattle.record_bytes.proofs.Putting.{put-put}
-
--- ---- the 1: the used length, the entry's fields and the frame's length
-
-module _ (used room frame q c b n : ℕ) where
-  pub may-add-above : room < used → false ≡ may_add_to room used frame q c b n
-  unfolding may_add_to
-  may-add-above h = simp (lt-leb used room h)
-
-  pub may-add-most : 65536 < used → false ≡ may_add_to room used frame q c b n
-  unfolding may_add_to
-  may-add-most h = simp (lt-leb used 65536 h, and-false)
-
-  pub may-add-yes : used ≤ room → used ≤ 65536 → n ≡ frame → in_range q c b n ≡ may_add_to room used frame q c b n
-  unfolding may_add_to
-  may-add-yes h k e = simp (le-leb used room h, le-leb used 65536 k, eq-eqb n frame e, and-true)
-
-  pub may-add-other : (n ≡ frame → ⊥) → false ≡ may_add_to room used frame q c b n
-  unfolding may_add_to
-  may-add-other e = simp (ne_eqb n frame e, and-false)
 
 pub bytes_take : (s : List ℕ) (n : ℕ) → Bytes s → Bytes (take n s)
 bytes_take s n b i = go (ltb i n) refl
@@ -155,13 +137,11 @@ module _ (f : Form) where
     unfolding has_room
     room-yes h k = simp (le-leb (used_with f used e) (length d) h, le-leb (used_with f used e) 65536 k)
 
-    pub room-buffer : length d < used_with f used e → has_room f d used e ≡ false
+    pub room_none : (length d < used_with f used e) ⊎ ((used_with f used e ≤ length d) × (65536 < used_with f used e))
+        → has_room f d used e ≡ false
     unfolding has_room
-    room-buffer h = simp (lt-leb (used_with f used e) (length d) h)
-
-    pub room_most : 65536 < used_with f used e → has_room f d used e ≡ false
-    unfolding has_room
-    room_most h = simp (lt-leb (used_with f used e) 65536 h, and-false)
+    room_none (inl h) = simp (lt-leb (used_with f used e) (length d) h)
+    room_none (inr h) = simp (lt-leb (used_with f used e) 65536 h.1, and-false)
 
     pub add-bad : may_add d used e size ≡ false → (refused 1 ≡ add_answer f d used e size) × (d ≡ add_buffer f d used e size)
     unfolding add_answer add_buffer
@@ -185,7 +165,7 @@ module _ (f : Form) where
         let t : take (used - end_size f) (take used d) ≡ take (used - end_size f) d = take-take (used - end_size f) used d (omega arith) in
         (l, sym t ∙ ap (take (used - end_size f)) r ∙ take_at (entries_bytes f es) b (used - end_size f) (omega arith))
 
-    pub whole-used : used ≤ length d → Bytes d → (n v : ℕ) → walk_of f (read_record f (take used d)) 0 ≡ walked.Whole n v
+    pub whole-used : used ≤ length d → Bytes d → (n v : ℕ) → walk_of f (read_record f (take used d)) 0 ≡ whole n v
         → WholeUsed n
     whole-used h b n v w =
         let k = whole-read f (take used d) 0 n v w in
@@ -193,7 +173,7 @@ module _ (f : Form) where
         let z = whole-sized k.es h (record-bytes (take used d) k.es r) in
         record { es = k.es; read = k.read; counted = k.counted; long = z.0; front = z.1 }
 
-    pub add_none : may_add d used e size ≡ true → walk_of f (read_record f (take used d)) 0 ≡ walked.Broken
+    pub add_none : may_add d used e size ≡ true → walk_of f (read_record f (take used d)) 0 ≡ None
         → (refused 7 ≡ add_answer f d used e size) × (d ≡ add_buffer f d used e size)
     unfolding add_answer add_buffer
     add_none m w =
@@ -201,7 +181,7 @@ module _ (f : Form) where
         (simp (m, q), simp (m, q))
 
     pub add-full : may_add d used e size ≡ true → Bytes d → (n v : ℕ)
-        → walk_of f (read_record f (take used d)) 0 ≡ walked.Whole n v → has_room f d used e ≡ false
+        → walk_of f (read_record f (take used d)) 0 ≡ whole n v → has_room f d used e ≡ false
         → (refused 6 ≡ add_answer f d used e size) × (d ≡ add_buffer f d used e size)
     unfolding add_answer add_buffer
     add-full m b n v w r =
@@ -209,7 +189,7 @@ module _ (f : Form) where
         (simp (m, k.read, r), simp (m, k.read, r))
 
     pub add-stored : may_add d used e size ≡ true → Bytes d → (n v : ℕ)
-        → walk_of f (read_record f (take used d)) 0 ≡ walked.Whole n v → used_with f used e ≤ length d → used_with f used e ≤ 65536
+        → walk_of f (read_record f (take used d)) 0 ≡ whole n v → used_with f used e ≤ length d → used_with f used e ≤ 65536
         → (accepted (used_with f used e) ≡ add_answer f d used e size)
         × (put d (used - end_size f) (e.frame ++ tail_for e n) ≡ add_buffer f d used e size)
     unfolding add_answer add_buffer
@@ -219,7 +199,7 @@ module _ (f : Form) where
         let r : has_room f d used e ≡ true = room-yes h k in
         (simp (m, o.read, r), simp (m, o.read, r) (put-stored d used o.es e n o.long o.front o.counted h))
 
-    pub used-known : used ≤ length d → Bytes d → (n v : ℕ) → walk_of f (read_record f (take used d)) 0 ≡ walked.Whole n v
+    pub used-known : used ≤ length d → Bytes d → (n v : ℕ) → walk_of f (read_record f (take used d)) 0 ≡ whole n v
         → (end_size f ≤ used) × (n ≤ used)
     used-known h b n v w =
         let o = whole-used h b n v w in

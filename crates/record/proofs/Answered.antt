@@ -3,22 +3,25 @@ use mathlib.Core.Path.{◌≡◌, refl, sym, ap, ◌∙◌, subst}
 use mathlib.Core.Bool.{Bool, true, false, cond}
 use mathlib.Core.Option.{Option, none, some}
 use mathlib.Core.List.{List, [], ◌∷◌, ◌++◌, append_assoc}
-use Prim.Native.Nat.{ℕ, zero, suc, ◌+◌, ◌≤◌, ◌<◌}
+use Prim.Native.Nat.{ℕ, zero, suc, ◌+◌, ◌-◌, ◌≤◌, ◌<◌}
 use native.Mathlib.Omega.{arith}
-use lib.Dec.{ltb}
+use lib.Dec.{eqb, ltb}
 use lib.ListN.{length, take, drop, length-append}
 use lib.Seq.{take_at, drop_at}
 use borrow.Author.Tests.{le-leb, lt-leb, lt-ltb, le-ltb, ltb-true, ltb-false}
 use Rattle.record_forms.specs.declared.Form.{Form}
-use Rattle.record_forms.specs.declared.Which.{Which}
-use Rattle.record_forms.specs.declared.Which.TheVariants as which
+use Rattle.record_forms.specs.declared.Form.TheVariants as form
+use Rattle.refusals.specs.Numbers.{refusal_number}
+use Rattle.refusals.specs.declared.Refusal.{Refusal}
+use Rattle.refusals.specs.declared.Refusal.TheVariants as refusal
 use Rattle.record_forms.specs.Forms.{trailer_size, end_size, which_form}
-use Rattle.record_bytes.specs.declared.Step.TheVariants as step
-use Rattle.record_bytes.specs.declared.Walked.TheVariants as walked
+use Rattle.std.specs.Prelude.{Some, None, Result, Ok, Err}
+use Rattle.std.specs.Prelude as std
+use Rattle.std.specs.Option.{ok_or, IsSome}
 use Rattle.record_bytes.specs.Layout.{RecordEntry, trailer, entry_bytes, entries_bytes, end_bytes, record_bytes, AllInRange, IsRecord}
 use Rattle.record_bytes.specs.Reading.{entry_before, read_record}
 use Rattle.record_bytes.specs.Located.{located, nowhere, locate}
-use Rattle.record_answers.specs.Answers.{accepted, refused, EntryAnswer, unfound}
+use Rattle.record_bytes.specs.Answers.{accepted, refused, EntryAnswer, unfound, value_answer, found_answer}
 use Rattle.record.specs.Answers.{
   in_form,
   new_number,
@@ -34,22 +37,32 @@ use Rattle.record.specs.Answers.{
   frame_in,
   frame_part,
 }
-use Rattle.record_bytes.specs.Steps.{step_of, walk_of, put}
+use Rattle.record_bytes.specs.Steps.{step_of, whole, walk_of, put}
 use Rattle.record_bytes.specs.declared.Located.{Located}
 use Rattle.record_bytes.proofs.Numbers.{Bytes}
 use Rattle.record_forms.proofs.Ranges.{in-range-of}
 use Rattle.record_bytes.proofs.Inverse.{length-entry, length-end, is_read}
 use Rattle.record_bytes.proofs.Walking.{whole-read, whole-end, none_read}
-use Rattle.record_bytes.proofs.Standing.{place_found, place-not-broken, place_inside}
+use Rattle.record_bytes.proofs.Standing.{place_found, place-there, place_inside}
 
 -- the frame x stands where v says
 pub record FrameStands (s : List ℕ) (v : Located) (x : List ℕ) : Type 0 where
   pub bytes : take v.length (drop v.start s) ≡ x
   pub within : v.start + v.length ≤ length s
 
+-- ---- what `ok_or` was given
+
+pub none_given : {T : Type 0} (o : std.Option T) (why x : Refusal) → Err x ≡ ok_or o why → (o ≡ None) × (x ≡ why)
+none_given None why x e = (refl, cc)
+none_given (Some v) why x e = cc
+
+pub some_given : {T : Type 0} (o : std.Option T) (why : Refusal) (v : T) → Ok v ≡ ok_or o why → o ≡ Some v
+some_given None why v e = cc
+some_given (Some u) why v e = cc
+
 -- ---- the form that a number names
 
-module _ (form : ℕ) (f : Form) (is : which_form form ≡ which.Is f) where
+module _ (form : ℕ) (f : Form) (is : which_form form ≡ Ok f) where
   pub entries-in : (s : List ℕ) → entries_in f s ≡ entries_answer form s
   unfolding entries_answer
   entries-in s = rw is refl
@@ -76,29 +89,50 @@ module _ (form : ℕ) (f : Form) (is : which_form form ≡ which.Is f) where
       ∙ ap (λ (x : List ℕ). x ++ drop (end_size f) d) e in
       (rw is (simp (le-leb (end_size f) (length d) h)), p ∙ rw is (simp (le-leb (end_size f) (length d) h)))
 
-module _ (form : ℕ) (no : which_form form ≡ which.NoForm) where
-  pub entries-no : (s : List ℕ) → refused 1 ≡ entries_answer form s
+-- no refusal has the number 0
+numbered : (why : Refusal) → refusal_number why ≡ suc (refusal_number why - 1)
+numbered refusal.Setting = refl
+numbered refusal.Length = refl
+numbered refusal.Beyond = refl
+numbered refusal.Foreign = refl
+numbered (refusal.BitError cause) = refl
+numbered refusal.NoRoom = refl
+numbered refusal.NotRecord = refl
+numbered refusal.TooSmall = refl
+
+-- a number that names no form is out of range
+pub no_form : (n : ℕ) (why : Refusal) → which_form n ≡ Err why → why ≡ refusal.Setting
+unfolding which_form
+no_form n why bad = go (eqb n 1) (eqb n 2) bad
+  where
+    go : (a b : Bool) → cond a (Ok form.One) (cond b (Ok form.Two) (Err refusal.Setting)) ≡ Err why → why ≡ refusal.Setting
+    go true b e = cc
+    go false true e = cc
+    go false false e = cc
+
+module _ (form : ℕ) (why : Refusal) (bad : which_form form ≡ Err why) where
+  pub entries-no : (s : List ℕ) → value_answer (Err why) ≡ entries_answer form s
   unfolding entries_answer
-  entries-no s = rw no refl
+  entries-no s = rw (bad, no_form form why bad) refl
 
-  pub entry-no : (s : List ℕ) (place : ℕ) → unfound 1 ≡ entry_answer form s place
+  pub entry-no : (s : List ℕ) (place : ℕ) → found_answer (Err why) ≡ entry_answer form s place
   unfolding entry_answer
-  entry-no s place = rw no refl
+  entry-no s place = rw (bad, no_form form why bad) refl
 
-  pub new-no : (d : List ℕ) → (1 ≡ new_number form d) × (d ≡ new_buffer form d)
+  pub new-no : (d : List ℕ) → (refusal_number why ≡ new_number form d) × (d ≡ new_buffer form d)
   unfolding new_number new_buffer
-  new-no d = (rw no refl, rw no refl)
+  new-no d = (rw (bad, no_form form why bad) refl, rw bad refl)
 
 module _ (f : Form) where
   -- ---- the number of entries
 
-  pub counted : (s : List ℕ) (place n v : ℕ) → walk_of f (read_record f s) place ≡ walked.Whole n v → accepted n ≡ entries_in f s
+  pub counted : (s : List ℕ) (place n v : ℕ) → walk_of f (read_record f s) place ≡ whole n v → accepted n ≡ entries_in f s
   unfolding entries_in
   counted s place n v w =
       let k = whole-read f s place n v w in
       ap accepted k.counted ∙ sym (ap entries_of k.read)
 
-  pub uncounted : (s : List ℕ) (place : ℕ) → walk_of f (read_record f s) place ≡ walked.Broken → refused 7 ≡ entries_in f s
+  pub uncounted : (s : List ℕ) (place : ℕ) → walk_of f (read_record f s) place ≡ None → refused 7 ≡ entries_in f s
   unfolding entries_in
   uncounted s place w = sym (ap entries_of (none_read f s place w))
 
@@ -112,25 +146,25 @@ module _ (f : Form) where
   abbrev answer : ℕ → Located → EntryAnswer
   answer n v = record { number = n; entry = v }
 
-  module _ (s : List ℕ) (place n end : ℕ) (b : Bytes s) (w : walk_of f (read_record f s) place ≡ walked.Whole n end) where
+  module _ (s : List ℕ) (place n end : ℕ) (b : Bytes s) (w : walk_of f (read_record f s) place ≡ whole n end) where
     -- the step from the place that the walk noted finds the entry
-    pub found : (v : Located) → place < n → step_of f (entry_before f s end) end ≡ step.Entry v → answer 0 v ≡ entry_in f s place
+    pub found : (v : Located) → place < n → step_of f (entry_before f s end) end ≡ Some v → answer 0 v ≡ entry_in f s place
     unfolding entry_in
     found v h q =
         let k = whole-read f s place n end w in
         let z = whole-end f s place n end k.es k.read w in
         let c = k.counted in
         let l : v ≡ locate f k.es place 0 = place_found f s k.es (is_read f s k.es b k.read) place (omega arith) v
-        (subst (λ (i : ℕ). step_of f (entry_before f s i) i ≡ step.Entry v) z q) in
+        (subst (λ (i : ℕ). step_of f (entry_before f s i) i ≡ Some v) z q) in
         rw k.read (simp (lt-ltb place (length k.es) (omega arith), l))
 
-    pub found-there : place < n → step_of f (entry_before f s end) end ≡ step.Broken → ⊥
-    found-there h q =
+    pub found-there : place < n → (o : std.Option Located) → o ≡ step_of f (entry_before f s end) end → IsSome o
+    found-there h o q =
         let k = whole-read f s place n end w in
         let z = whole-end f s place n end k.es k.read w in
         let c = k.counted in
-        place-not-broken f s k.es (is_read f s k.es b k.read) place (omega arith)
-        (subst (λ (i : ℕ). step_of f (entry_before f s i) i ≡ step.Broken) z q)
+        place-there f s k.es (is_read f s k.es b k.read) place (omega arith) o
+        (subst (λ (i : ℕ). o ≡ step_of f (entry_before f s i) i) z q)
 
     pub found_inside : place < n → (end ≤ length s) × (length s ≤ 65536)
     found_inside h =
@@ -147,7 +181,7 @@ module _ (f : Form) where
         let c = k.counted in
         rw k.read (simp (le-ltb place (length k.es) (omega arith), ← locate-past k.es place 0 (omega arith)))
 
-  pub no_record : (s : List ℕ) (place : ℕ) → walk_of f (read_record f s) place ≡ walked.Broken → unfound 7 ≡ entry_in f s place
+  pub no_record : (s : List ℕ) (place : ℕ) → walk_of f (read_record f s) place ≡ None → unfound 7 ≡ entry_in f s place
   unfolding entry_in
   no_record s place w = sym (ap (λ (o : Option (List RecordEntry)). entry_of f o place) (none_read f s place w))
 
@@ -257,26 +291,32 @@ module _ (form : ℕ) (s : List ℕ) (place : ℕ) where
   unfolding entry_answer frame_part
   frame_found v b r = go (which_form form) r
     where
-      go : (w : Which) → record { number = 0; entry = v } ≡ in_form w (unfound 1) (λ f. entry_in f s place)
+      go : (w : Result Form Refusal) → record { number = 0; entry = v } ≡ in_form w (unfound 1) (λ f. entry_in f s place)
           → FrameStands s v (in_form w [] (λ f. frame_in f s place))
-      go (which.Is f) r = found_in f s place v b r
-      go which.NoForm r = let z : ◌≡◌ {A = ℕ} 0 1 = ap (λ (x : EntryAnswer). x.number) r in absurd (omega arith)
+      go (Ok f) r = found_in f s place v b r
+      go (Err why) r = let z : ◌≡◌ {A = ℕ} 0 1 = ap (λ (x : EntryAnswer). x.number) r in absurd (omega arith)
 
   -- where `entry` refuses there is no frame
-  pub frame-none : (n : ℕ) → unfound (suc n) ≡ entry_answer form s place → [] ≡ frame_part form s place
+  frame-unfound : (n : ℕ) → unfound (suc n) ≡ entry_answer form s place → [] ≡ frame_part form s place
   unfolding entry_answer frame_part
-  frame-none n r = go (which_form form) r
+  frame-unfound n r = go (which_form form) r
     where
-      go : (w : Which) → unfound (suc n) ≡ in_form w (unfound 1) (λ f. entry_in f s place) → [] ≡ in_form w [] (λ f. frame_in f s place)
-      go (which.Is f) r = unfound-in f s place n r
-      go which.NoForm r = refl
+      go : (w : Result Form Refusal) → unfound (suc n) ≡ in_form w (unfound 1) (λ f. entry_in f s place)
+          → [] ≡ in_form w [] (λ f. frame_in f s place)
+      go (Ok f) r = unfound-in f s place n r
+      go (Err why) r = refl
+
+  pub frame-none : (why : Refusal) → found_answer (Err why) ≡ entry_answer form s place → [] ≡ frame_part form s place
+  frame-none why r =
+      let k : refusal_number why ≡ suc (refusal_number why - 1) = numbered why in
+      frame-unfound (refusal_number why - 1) (ap unfound (sym k) ∙ r)
 
   -- where there is no frame, no entry is there: `entry` refuses
   pub frame-missing : Bytes s → length (frame_part form s place) ≡ 0 → 1 ≤ (entry_answer form s place).number
   unfolding entry_answer frame_part
   frame-missing b z = go (which_form form) z
     where
-      go : (w : Which) → length (in_form w [] (λ f. frame_in f s place)) ≡ 0
+      go : (w : Result Form Refusal) → length (in_form w [] (λ f. frame_in f s place)) ≡ 0
           → 1 ≤ (in_form w (unfound 1) (λ f. entry_in f s place)).number
-      go (which.Is f) z = missing-in f s place b z
-      go which.NoForm z = omega arith
+      go (Ok f) z = missing-in f s place b z
+      go (Err why) z = omega arith

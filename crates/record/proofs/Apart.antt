@@ -10,7 +10,7 @@ use lib.Seq.{get_or_at}
 use Rattle.record_forms.specs.declared.Form.TheVariants as form
 use Rattle.record_bytes.specs.Layout.{RecordEntry, big, entries_bytes, end_bytes, record_bytes, IsRecord}
 use Rattle.record_bytes.specs.Reading.{number, read_record}
-use Rattle.record_answers.specs.Answers.{refused}
+use Rattle.record_bytes.specs.Answers.{refused}
 use Rattle.record.specs.Answers.{may_add, add_of, add_answer}
 use Rattle.record_bytes.proofs.Numbers.{Bytes, length-big, number-big}
 use Rattle.record_bytes.proofs.Inverse.{length-record, count_most, entries-bounds, end_read, is_read}

@@ -12,9 +12,9 @@ use lib.Seq.{take_at, drop_at}
 use borrow.Author.Tests.{lt-ltb, leb-true, le-leb}
 use Rattle.record_forms.specs.declared.Form.{Form}
 use Rattle.record_forms.specs.declared.Form.TheVariants as form
-use Rattle.record_forms.specs.declared.Which.TheVariants as which
+use Rattle.refusals.specs.declared.Refusal.{Refusal}
 use Rattle.record_forms.specs.Forms.{trailer_size, end_size, which_form}
-use Rattle.record_bytes.specs.declared.Walked.TheVariants as walked
+use Rattle.std.specs.Prelude.{Ok, Err}
 use Rattle.record_bytes.specs.Layout.{
   RecordEntry,
   big,
@@ -32,7 +32,7 @@ use Rattle.record_bytes.specs.Layout.{
 }
 use Rattle.record_bytes.specs.Reading.{read_record}
 use Rattle.record_bytes.specs.Located.{locate}
-use Rattle.record_answers.specs.Answers.{Answer, accepted, refused}
+use Rattle.record_bytes.specs.Answers.{Answer, accepted, refused, value_answer}
 use Rattle.record.specs.Answers.{
   entries_of,
   entries_in,
@@ -45,7 +45,7 @@ use Rattle.record.specs.Answers.{
   add_answer,
   add_buffer,
 }
-use Rattle.record_bytes.specs.Steps.{walk_of}
+use Rattle.record_bytes.specs.Steps.{whole, walk_of}
 use Rattle.record.specs.Meaning.{Counts, CountMeans, entry_from, Stored}
 use Rattle.record_bytes.proofs.Numbers.{Bytes}
 use Rattle.record_bytes.proofs.Inverse.{
@@ -59,6 +59,7 @@ use Rattle.record_bytes.proofs.Inverse.{
   is_read,
 }
 use Rattle.record_bytes.proofs.Standing.{locate-at}
+use Rattle.record.proofs.Answered.{no_form}
 use Rattle.record.proofs.Adding.{bytes_take, allowed, whole-used}
 
 -- ---- what does not depend on the form
@@ -99,13 +100,13 @@ module _ (f : Form) where
   )
 
   counts : (s : List ℕ) → Bytes s → (o : Option (List RecordEntry)) → read_record f s ≡ o
-      → Counts (which.Is f) (entries_of o).number (entries_of o).value s
+      → Counts (Ok f) (entries_of o).number (entries_of o).value s
   counts s b none q = λ es r.
       let w : none ≡ some (held_all f es) = sym q ∙ read-record s es r in
       let z : ◌≡◌ {A = ℕ} 0 1 = cc in absurd (omega arith)
   counts s b (some es) q = (es, (is_read f s es b q).is, refl)
 
-  pub count-means : (form : ℕ) → which_form form ≡ which.Is f → (s : List ℕ) → Bytes s → (a : Answer) → a ≡ entries_in f s
+  pub count-means : (form : ℕ) → which_form form ≡ Ok f → (s : List ℕ) → Bytes s → (a : Answer) → a ≡ entries_in f s
       → CountMeans form a s
   unfolding entries_in
   count-means form is s b a e = rw (is, e) (counts s b (read_record f s) refl)
@@ -196,7 +197,7 @@ module _ (f : Form) where
 
   module _ (d : List ℕ) (used : ℕ) (e : RecordEntry) (size : ℕ) (m : may_add d used e size ≡ true) where
     -- an entry called stored is stored
-    pub add-stores : Bytes d → (n v : ℕ) → walk_of f (read_record f (take used d)) 0 ≡ walked.Whole n v
+    pub add-stores : Bytes d → (n v : ℕ) → walk_of f (read_record f (take used d)) 0 ≡ whole n v
         → has_room f d used e ≡ true → used_with f used e ≤ most → Stored f d (add_buffer f d used e size) used (used_with f used e) e
     unfolding add_buffer
     add-stores b n v w r k =
@@ -219,8 +220,8 @@ module _ (f : Form) where
         full true a = let z : ◌≡◌ {A = ℕ} 0 6 = ap (λ (x : Answer). x.number) a in absurd (omega arith)
         full false a = refl
 
-pub no-form-means : (form : ℕ) → which_form form ≡ which.NoForm → (s : List ℕ) → CountMeans form (refused 1) s
-no-form-means form n s = rw n refl
+pub no-form-means : (form : ℕ) (why : Refusal) → which_form form ≡ Err why → (s : List ℕ) → CountMeans form (value_answer (Err why)) s
+no-form-means form why bad s = rw (bad, no_form form why bad) refl
 
 -- ---- the documents' examples
 

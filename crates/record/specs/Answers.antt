@@ -1,22 +1,21 @@
 -- What each function answers for all input: document 01's number with the values beside it, and the buffer that it leaves. What is said of
 -- a form stands first, and the number that names it is looked at before everything else.
 -- A refusal returns its number, zero in every other field, and no lent byte is changed. Assumes nothing.
-use Rattle.std.specs.Prelude.{Bool, ◌&&◌, cond, List, [], ◌∷◌, ◌++◌, ℕ, zero, suc, ◌+◌, length, take, drop, leb, ltb, eqb}
+use Rattle.std.specs.Prelude.{Bool, ◌&&◌, cond, List, [], ◌∷◌, ◌++◌, ℕ, zero, suc, ◌+◌, length, take, drop, leb, ltb, eqb, Result, Ok, Err}
 use Rattle.std.proofs.Math.Option.{Option, none, some}
 use Rattle.record_forms.specs.declared.Form.{Form}
-use Rattle.record_forms.specs.declared.Which.{Which}
-use Rattle.record_forms.specs.declared.Which.TheVariants as which
+use Rattle.refusals.specs.declared.Refusal.{Refusal}
 use Rattle.record_forms.specs.Forms.{trailer_size, end_size, which_form}
 use Rattle.record_bytes.specs.Layout.{RecordEntry, record_bytes, most}
 use Rattle.record_forms.specs.Ranges.{in_range}
 use Rattle.record_bytes.specs.Reading.{read_record}
 use Rattle.record_bytes.specs.Located.{locate}
-use Rattle.record_answers.specs.Answers.{Answer, accepted, refused, EntryAnswer, unfound}
+use Rattle.record_bytes.specs.Answers.{Answer, accepted, refused, EntryAnswer, unfound}
 
 -- what is answered in the form that a number names, and what where it names none
-abbrev pub in_form : {A : Type 0} → Which → A → (Form → A) → A
-in_form (which.Is f) bad k = k f
-in_form which.NoForm bad k = bad
+abbrev pub in_form : {A : Type 0} → Result Form Refusal → A → (Form → A) → A
+in_form (Ok f) bad k = k f
+in_form (Err why) bad k = bad
 
 -- "in a buffer shorter than 4 gives 6", or than 5
 unfoldable pub new_number : ℕ → List ℕ → ℕ

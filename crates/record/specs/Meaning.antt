@@ -1,19 +1,18 @@
 -- What the answers mean for the entries, beside their numbers: that a count is that of the entries whose bytes these are, and that
 -- an entry called stored is read back. Assumes nothing.
-use Rattle.std.specs.Prelude.{◌≡◌, List, ℕ, zero, suc, ◌-◌, ◌<◌, length, take, drop}
+use Rattle.std.specs.Prelude.{◌≡◌, List, ℕ, zero, suc, ◌-◌, ◌<◌, length, take, drop, Result, Ok, Err}
 use Rattle.record_forms.specs.declared.Form.{Form}
-use Rattle.record_forms.specs.declared.Which.{Which}
-use Rattle.record_forms.specs.declared.Which.TheVariants as which
+use Rattle.refusals.specs.declared.Refusal.{Refusal}
 use Rattle.record_forms.specs.Forms.{end_size, which_form}
 use Rattle.record_bytes.specs.Layout.{RecordEntry, entry_bytes, IsRecord, held}
-use Rattle.record_answers.specs.Answers.{Answer, accepted, EntryAnswer}
+use Rattle.record_bytes.specs.Answers.{Answer, accepted, EntryAnswer}
 use Rattle.record.specs.Answers.{entries_in, entry_in, frame_in}
 use Rattle.record_bytes.specs.Located.{located}
 
-abbrev pub Counts : Which → ℕ → ℕ → List ℕ → Type 0
-Counts which.NoForm number n s = number ≡ 1
-Counts (which.Is f) zero n s = (es : List RecordEntry) × IsRecord f s es × (n ≡ length es)
-Counts (which.Is f) (suc number) n s = (es : List RecordEntry) → IsRecord f s es → ⊥
+abbrev pub Counts : Result Form Refusal → ℕ → ℕ → List ℕ → Type 0
+Counts (Err why) number n s = number ≡ 1
+Counts (Ok f) zero n s = (es : List RecordEntry) × IsRecord f s es × (n ≡ length es)
+Counts (Ok f) (suc number) n s = (es : List RecordEntry) → IsRecord f s es → ⊥
 
 -- accepted: a record of so many entries; refused: no list of entries at all has these bytes, or the number names no form
 abbrev pub CountMeans : ℕ → Answer → List ℕ → Type 0

@@ -2,7 +2,7 @@
 use mathlib.Core.Path.{◌≡◌, refl, sym, ap, ◌∙◌}
 use mathlib.Core.List.{List, [], ◌∷◌, ◌++◌, append_assoc}
 use Prim.Native.Nat.{ℕ, zero, suc, ◌+◌, ◌*◌, ◌/◌, ◌%◌, ◌^◌, ◌≤◌, ◌<◌}
-use native.Mathlib.Nat.{add-zero, add_assoc, pow-suc, div-add-mod', div-lt_iff_lt-mul}
+use native.Mathlib.Nat.{add-zero, pow-suc, div-add-mod', div-lt_iff_lt-mul}
 use native.Mathlib.Numerals.{add-one}
 use native.Mathlib.Omega.{arith}
 use lib.ListN.{length, get_or, take, drop, length-append, length-drop}
@@ -14,16 +14,14 @@ use Rattle.record_bytes.specs.Reading.{number}
 abbrev pub Bytes : List ℕ → Type 0
 Bytes s = (i : ℕ) → get_or s i 0 < 256
 
-pub number-two : (s : List ℕ) (at : ℕ) → number s at 2 ≡ get_or s at 0 * 256 + get_or s (at + 1) 0
+pub number_two : (s : List ℕ) (at : ℕ) → number s at 2 ≡ get_or s at 0 * 256 + get_or s (at + 1) 0
 unfolding number
-number-two s at = let e : at + 0 ≡ at = add-zero at in rw e (omega arith)
+number_two s at = let e : at + 0 ≡ at = add-zero at in rw e (omega arith)
 
-pub number-four : (s : List ℕ) (at : ℕ) → number s at 4 ≡ number s at 2 * 65536 + number s (at + 2) 2
+pub number_four : (s : List ℕ) (at : ℕ)
+    → number s at 4 ≡ get_or s at 0 * 16777216 + get_or s (at + 1) 0 * 65536 + get_or s (at + 2) 0 * 256 + get_or s (at + 3) 0
 unfolding number
-number-four s at =
-    let e : at + 2 + 0 ≡ at + 2 = add-zero (at + 2) in
-    let f : at + 2 + 1 ≡ at + 3 = add_assoc at 2 1 in
-    rw (e, f) (omega arith)
+number_four s at = let e : at + 0 ≡ at = add-zero at in rw e (omega arith)
 
 pub length-big : (k n : ℕ) → length (big k n) ≡ k
 unfolding big

@@ -9,7 +9,9 @@ use lib.ListN.{length, take, drop, length-append}
 use lib.Seq.{take_at, drop_at}
 use Rattle.record_forms.specs.declared.Form.{Form}
 use Rattle.record_forms.specs.Forms.{trailer_size, end_size}
-use Rattle.record_bytes.specs.declared.Step.TheVariants as step
+use Rattle.std.specs.Prelude.{Some, None}
+use Rattle.std.specs.Prelude as std
+use Rattle.std.specs.Option.{IsSome}
 use Rattle.record_bytes.specs.declared.Located.{Located}
 use Rattle.record_bytes.specs.Layout.{
   RecordEntry,
@@ -171,20 +173,20 @@ module _ (f : Form) where
 
     module _ (end left : ℕ) (later : List RecordEntry) (n : Next end left later) where
       -- the step finds the entry, at its start
-      pub next-found : (v : Located) → step_of f (entry_before f s end) end ≡ step.Entry v
+      pub next-found : (v : Located) → step_of f (entry_before f s end) end ≡ Some v
           → v ≡ located n.entry (length (entries_bytes f n.before))
       next-found v q =
           let e : end - (length n.entry.frame + trailer_size f) ≡ length (entries_bytes f n.before) = omega (arith, n.ends) in
-          let p : step.Entry (located n.entry (end - (length n.entry.frame + trailer_size f))) ≡ step.Entry v =
+          let p : Some (located n.entry (end - (length n.entry.frame + trailer_size f))) ≡ Some v =
           ap (λ (o : Option RecordEntry). step_of f o end) (sym n.found) ∙ q in
           let is : v ≡ located n.entry (end - (length n.entry.frame + trailer_size f)) = cc in
           is ∙ ap (located n.entry) e
 
-      pub next-not-broken : step_of f (entry_before f s end) end ≡ step.Broken → ⊥
-      next-not-broken q =
-          let p : step.Entry (located n.entry (end - (length n.entry.frame + trailer_size f))) ≡ step.Broken =
-          ap (λ (o : Option RecordEntry). step_of f o end) (sym n.found) ∙ q in
-          let z : ◌≡◌ {A = ℕ} 0 1 = cc in omega arith
+      pub next-there : (o : std.Option Located) → o ≡ step_of f (entry_before f s end) end → IsSome o
+      next-there (Some v) q = refl
+      next-there None q =
+          let p : Some (located n.entry (end - (length n.entry.frame + trailer_size f))) ≡ None =
+          ap (λ (o : Option RecordEntry). step_of f o end) (sym n.found) ∙ sym q in cc
 
       -- and the walk goes on before it
       pub next-standing : Standing (length (entries_bytes f n.before)) (left - 1) (n.entry ∷ later)
@@ -229,7 +231,7 @@ module _ (f : Form) where
 
     module _ (place : ℕ) (h : place < length es) where
       -- the step from there finds the entry at the place
-      pub place_found : (v : Located) → step_of f (entry_before f s (end_at f es place 0)) (end_at f es place 0) ≡ step.Entry v
+      pub place_found : (v : Located) → step_of f (entry_before f s (end_at f es place 0)) (end_at f es place 0) ≡ Some v
           → v ≡ locate f es place 0
       place_found v q =
           let t = there-at place h in
@@ -240,8 +242,8 @@ module _ (f : Form) where
           ∙ sym (locate-at n.before n.entry t.later 0) ∙ ap (λ (k : ℕ). locate f (n.before ++ (n.entry ∷ t.later)) k 0) c
           ∙ ap (λ (l : List RecordEntry). locate f l place 0) (sym n.joined)
 
-      pub place-not-broken : step_of f (entry_before f s (end_at f es place 0)) (end_at f es place 0) ≡ step.Broken → ⊥
-      place-not-broken q = let t = there-at place h in next-not-broken (end_at f es place 0) (suc place) t.later t.there q
+      pub place-there : (o : std.Option Located) → o ≡ step_of f (entry_before f s (end_at f es place 0)) (end_at f es place 0) → IsSome o
+      place-there o q = let t = there-at place h in next-there (end_at f es place 0) (suc place) t.later t.there o q
 
       pub place_inside : end_at f es place 0 ≤ length s
       place_inside =

@@ -13,25 +13,25 @@ use borrow.Author.Tests.{leb-true, leb-false, le-leb, lt-leb, eqb-true, eqb-fals
 use Rattle.record_forms.specs.declared.Form.{Form}
 use Rattle.record_forms.specs.declared.Form.TheVariants as form
 use Rattle.record_forms.specs.Forms.{mark_size, mark, trailer_size, end_size}
-use Rattle.record_bytes.specs.declared.Step.TheVariants as step
-use Rattle.record_bytes.specs.declared.Walked.TheVariants as walked
+use Rattle.std.specs.Prelude.{Some, None}
 use Rattle.record_bytes.specs.Layout.{RecordEntry, most}
 use Rattle.record_forms.specs.Ranges.{in_range}
 use Rattle.record_bytes.specs.Reading.{number, bits_at, entry_ending, may_end, entry_before, read_back, may_be, read_record}
 use Rattle.record_bytes.specs.Located.{located, end_at}
-use Rattle.record_bytes.specs.Steps.{step_of, walk_of, Whole}
+use Rattle.record_bytes.specs.Steps.{step_of, whole, walk_of, Whole}
 use Rattle.record_bytes.specs.declared.Located.{Located}
+use Rattle.record_bytes.specs.declared.Walked.{Walked}
 use Rattle.record_forms.proofs.Ranges.{and_left, and_right}
 use Rattle.record_bytes.proofs.Before.{Before, before_of}
 
 -- ---- one step
 
-pub step-short : (f : Form) (s : List ℕ) (end : ℕ) → end < trailer_size f → step_of f (entry_before f s end) end ≡ step.Broken
+pub step-short : (f : Form) (s : List ℕ) (end : ℕ) → end < trailer_size f → step_of f (entry_before f s end) end ≡ None
 unfolding entry_before may_end
 step-short f s end h = simp (lt-leb (number s (end - 2) 2 + trailer_size f) end (omega arith))
 
 module _ (f : Form) (s : List ℕ) (end at size : ℕ) (a : at + trailer_size f ≡ end) (z : size ≡ number s (end - 2) 2) where
-  pub step-far : at < size → step_of f (entry_before f s end) end ≡ step.Broken
+  pub step-far : at < size → step_of f (entry_before f s end) end ≡ None
   unfolding entry_before may_end
   step-far h = rw (← z) (simp (lt-leb (size + trailer_size f) end (omega arith)))
 
@@ -39,12 +39,12 @@ module _ (f : Form) (s : List ℕ) (end at size : ℕ) (a : at + trailer_size f 
   ends = omega arith
 
   pub step-out : in_range (get_or s at 0) (get_or s (at + 1) 0) (bits_at f s (at + 2)) size ≡ false
-      → step_of f (entry_before f s end) end ≡ step.Broken
+      → step_of f (entry_before f s end) end ≡ None
   unfolding entry_before may_end
   step-out r = rw (← z, ends) (simp (r, and-false))
 
   pub step-entry : end ≤ length s → size ≤ at → in_range (get_or s at 0) (get_or s (at + 1) 0) (bits_at f s (at + 2)) size ≡ true
-      → step_of f (entry_before f s end) end ≡ step.Entry
+      → step_of f (entry_before f s end) end ≡ Some
       (record { start = at - size; length = size; request = get_or s at 0; count = get_or s (at + 1) 0; bits = bits_at f s (at + 2) })
   unfolding entry_before may_end entry_ending
   step-entry h k r =
@@ -120,7 +120,7 @@ module _ (f : Form) where
     pub counted : left + length later ≡ n
     pub seen : found ≡ noted later left place end
 
-  pub walk-not : (s : List ℕ) (place : ℕ) → may_be f s ≡ false → walk_of f (read_record f s) place ≡ walked.Broken
+  pub walk-not : (s : List ℕ) (place : ℕ) → may_be f s ≡ false → walk_of f (read_record f s) place ≡ None
   unfolding read_record
   walk-not s place m = rw m refl
 
@@ -157,7 +157,7 @@ module _ (f : Form) where
     pub walking : Walking s v.start left place n (cond (eqb left place) end found)
 
   turn-some : (s : List ℕ) (end left place n found : ℕ) (v : Located) → end ≤ length s → Walking s end (suc left) place n found
-      → (o : Option RecordEntry) → entry_before f s end ≡ o → step_of f o end ≡ step.Entry v → Turned s end left place n found v
+      → (o : Option RecordEntry) → entry_before f s end ≡ o → step_of f o end ≡ Some v → Turned s end left place n found v
   unfolding read_back
   turn-some s end left place n found v h w none q r = let z : ◌≡◌ {A = ℕ} 0 1 = cc in absurd (omega arith)
   turn-some s end left place n found v h w (some e) q r =
@@ -177,7 +177,7 @@ module _ (f : Form) where
       }
 
   pub turn : (s : List ℕ) (end left place n found : ℕ) (v : Located) → end ≤ length s → 0 < left → Walking s end left place n found
-      → step_of f (entry_before f s end) end ≡ step.Entry v → Turned s end (left - 1) place n found v
+      → step_of f (entry_before f s end) end ≡ Some v → Turned s end (left - 1) place n found v
   turn s end zero place n found v h k w r = absurd (omega arith)
   turn s end (suc left) place n found v h k w r =
       let e : suc left - 1 ≡ left = omega arith in
@@ -186,8 +186,8 @@ module _ (f : Form) where
   -- ---- the ways out
 
   stop-some : (s : List ℕ) (end left place n found : ℕ) → Walking s end (suc left) place n found
-      → (o : Option RecordEntry) → entry_before f s end ≡ o → step_of f o end ≡ step.Broken
-      → walk_of f (read_record f s) place ≡ walked.Broken
+      → (o : Option RecordEntry) → entry_before f s end ≡ o → step_of f o end ≡ None
+      → walk_of f (read_record f s) place ≡ None
   unfolding read_back
   stop-some s end left place n found w none q r =
       let z : none ≡ read_record f s = sym (read-no-more s end left w.later q) ∙ w.rest in
@@ -195,12 +195,12 @@ module _ (f : Form) where
   stop-some s end left place n found w (some e) q r = cc
 
   pub walk-stop : (s : List ℕ) (end left place n found : ℕ) → 0 < left → Walking s end left place n found
-      → step_of f (entry_before f s end) end ≡ step.Broken → walk_of f (read_record f s) place ≡ walked.Broken
+      → step_of f (entry_before f s end) end ≡ None → walk_of f (read_record f s) place ≡ None
   walk-stop s end zero place n found k w r = absurd (omega arith)
   walk-stop s end (suc left) place n found k w r = stop-some s end left place n found w (entry_before f s end) refl r
 
   whole-at : (s : List ℕ) (place n found : ℕ) → Walking s 0 0 place n found
-      → walk_of f (read_record f s) place ≡ walked.Whole n found
+      → walk_of f (read_record f s) place ≡ whole n found
   unfolding read_back
   whole-at s place n found w =
       let c : length w.later ≡ n = omega (arith, w.counted) in
@@ -210,12 +210,12 @@ module _ (f : Form) where
       rw (← r, g, c) refl
 
   pub walk-whole : (s : List ℕ) (end left place n found : ℕ) → end ≡ 0 → left ≡ 0 → Walking s end left place n found
-      → walk_of f (read_record f s) place ≡ walked.Whole n found
+      → walk_of f (read_record f s) place ≡ whole n found
   walk-whole s end left place n found e z w =
       whole-at s place n found (subst (λ (k : ℕ). Walking s 0 k place n found) z (subst (λ (k : ℕ). Walking s k left place n found) e w))
 
   pub walk-over : (s : List ℕ) (end left place n found : ℕ) → (end ≡ 0 → ⊥) → left ≡ 0 → Walking s end left place n found
-      → walk_of f (read_record f s) place ≡ walked.Broken
+      → walk_of f (read_record f s) place ≡ None
   unfolding read_back
   walk-over s end left place n found e z w =
       let r : read_back f s end 0 w.later ≡ read_record f s = ap (λ (k : ℕ). read_back f s end k w.later) (sym z) ∙ w.rest in
@@ -223,23 +223,28 @@ module _ (f : Form) where
 
   -- ---- what the walk's answer says of what was read
 
-  pub whole-read : (s : List ℕ) (place n v : ℕ) → walk_of f (read_record f s) place ≡ walked.Whole n v → Whole f s n
+  same-whole : (n end m stop : ℕ) → whole n end ≡ whole m stop → (n ≡ m) × (end ≡ stop)
+  same-whole n end m stop e =
+      let w : ◌≡◌ {A = Walked} (record { entries = n; end = end }) (record { entries = m; end = stop }) = cc in
+      (ap (λ (x : Walked). x.entries) w, ap (λ (x : Walked). x.end) w)
+
+  pub whole-read : (s : List ℕ) (place n v : ℕ) → walk_of f (read_record f s) place ≡ whole n v → Whole f s n
   whole-read s place n v w = go (read_record f s) refl w
     where
-      go : (o : Option (List RecordEntry)) → read_record f s ≡ o → walk_of f o place ≡ walked.Whole n v → Whole f s n
+      go : (o : Option (List RecordEntry)) → read_record f s ≡ o → walk_of f o place ≡ whole n v → Whole f s n
       go none q r = let z : ◌≡◌ {A = ℕ} 0 1 = cc in absurd (omega arith)
-      go (some es) q r = record { es = es; read = q; counted = cc }
+      go (some es) q r = record { es = es; read = q; counted = (same-whole n v (length es) (end_at f es place 0) (sym r)).0 }
 
-  pub none_read : (s : List ℕ) (place : ℕ) → walk_of f (read_record f s) place ≡ walked.Broken → read_record f s ≡ none
+  pub none_read : (s : List ℕ) (place : ℕ) → walk_of f (read_record f s) place ≡ None → read_record f s ≡ none
   none_read s place w = go (read_record f s) refl w
     where
-      go : (o : Option (List RecordEntry)) → read_record f s ≡ o → walk_of f o place ≡ walked.Broken → read_record f s ≡ none
+      go : (o : Option (List RecordEntry)) → read_record f s ≡ o → walk_of f o place ≡ None → read_record f s ≡ none
       go none q r = q
       go (some es) q r = let z : ◌≡◌ {A = ℕ} 0 1 = cc in absurd (omega arith)
 
   -- where the entry that was asked for ends
   pub whole-end : (s : List ℕ) (place n v : ℕ) (es : List RecordEntry) → read_record f s ≡ some es
-      → walk_of f (read_record f s) place ≡ walked.Whole n v → v ≡ end_at f es place 0
+      → walk_of f (read_record f s) place ≡ whole n v → v ≡ end_at f es place 0
   whole-end s place n v es q w =
-      let t : walk_of f (some es) place ≡ walked.Whole n v = rw q at w in
-      cc
+      let t : walk_of f (some es) place ≡ whole n v = rw q at w in
+      (same-whole n v (length es) (end_at f es place 0) (sym t)).1

@@ -10,7 +10,6 @@ ghost use Rattle.record_bytes.specs.Reading.{number, bits_at, entry_before, may_
 ghost use Rattle.record_bytes.specs.Steps.{put, step_of, walk_of};
 
 use record_forms::{Form, in_range};
-use widening::{wide, wide4};
 
 // Where an entry's frame stands in the record, and the entry's fields.
 #[derive(Clone, Copy)]
@@ -22,36 +21,30 @@ pub struct Located {
     pub bits: u16,
 }
 
-// What stands before a place of the record.
+// What the whole walk finds in a record: the number of entries, and where the one that was asked for ends.
 #[derive(Clone, Copy)]
-pub enum Step {
-    Entry(Located),
-    Broken,
-}
-
-// What the whole walk finds: the number of entries with where the one that was asked for ends, or no record.
-#[derive(Clone, Copy)]
-pub enum Walked {
-    Whole(u32, usize),
-    Broken,
+pub struct Walked {
+    pub entries: u32,
+    pub end: usize,
 }
 
 // The two bytes from `at` as a number.
+#[tactic(auto, using(crate::proofs::Numbers::number_two))]
 fn number2(s: &[u8], at: usize) -> usize
     requires { at + 2 ≤ length s.now }
     ensures value { result ≡ number s.now at 2 }
     ensures upper_bound { result < 65536 }
 {
-    wide(s[at]) * 256 + wide(s[at + 1])
+    usize::from(u16::from_be_bytes([s[at], s[at + 1]]))
 }
 
 // The four bytes from `at` as a number.
-fn number4(s: &[u8], at: usize) -> usize
+#[tactic(auto, using(crate::proofs::Numbers::number_four))]
+fn number4(s: &[u8], at: usize) -> u32
     requires { at + 4 ≤ length s.now }
-    ensures value { result ≡ number s.now at 4 }
-    ensures upper_bound { result < 4294967296 }
+    ensures { result ≡ number s.now at 4 }
 {
-    number2(s, at) * 65536 + number2(s, at + 2)
+    u32::from_be_bytes([s[at], s[at + 1], s[at + 2], s[at + 3]])
 }
 
 // The bits of an entry, which stand from `at` on where the form has them.
@@ -63,44 +56,36 @@ fn bits_at(form: Form, s: &[u8], at: usize) -> usize
     number2(s, at) | form.joined_bits()
 }
 
-// The entry that ends before `end`.
-pub fn entry_before(form: Form, bytes: &[u8], end: usize) -> Step
+// The entry that ends before `end`; none where no entry does.
+pub fn entry_before(form: Form, bytes: &[u8], end: usize) -> Option<Located>
     requires end_in_bounds { end ≤ length bytes.now }
     requires end_bound { end ≤ 65536 }
     ensures { result ≡ step_of form (entry_before form bytes.now end) end }
 {
     let size = form.trailer();
+    // Tests in place of `checked_sub`, which puts a conditional move into the walk and is slower.
     if end < size {
-        return Step::Broken;
+        return None;
     }
     let at = end - size;
     let request = bytes[at];
     let count = bytes[at + 1];
     let bits = bits_at(form, bytes, at + 2);
     let length = number2(bytes, end - 2);
-    if length <= at {
-        if in_range(wide(request), wide(count), bits, length) {
-            let start = at - length;
-            Step::Entry(Located {
-                start: start as u32,
-                length: length as u16,
-                request,
-                count,
-                bits: bits as u16,
-            })
-        } else {
-            Step::Broken
-        }
-    } else {
-        Step::Broken
+    if at < length {
+        return None;
     }
-}
-
-// Where the entry ends if it is the one asked for, else what was found before.
-fn kept(at: usize, place: usize, end: usize, found: usize) -> usize
-    ensures { result ≡ cond (eqb at place) end found }
-{
-    if at == place { end } else { found }
+    let start = at - length;
+    if !in_range(usize::from(request), usize::from(count), bits, length) {
+        return None;
+    }
+    Some(Located {
+        start: start as u32,
+        length: length as u16,
+        request,
+        count,
+        bits: bits as u16,
+    })
 }
 
 // Whether the bytes may be a record of the form by their number and their last byte.
@@ -120,49 +105,48 @@ fn may_be(form: Form, bytes: &[u8]) -> bool
     }
 }
 
-// Walks to byte 0, and notes on the way where the entry at `place` ends.
-fn walk_back(form: Form, bytes: &[u8], place: usize) -> Walked
+// Walks to byte 0, and notes on the way where the entry at `place` ends; none where the bytes are no record.
+fn walk_back(form: Form, bytes: &[u8], place: usize) -> Option<Walked>
     ensures { result ≡ walk_of form (read_record form bytes.now) place }
 {
     if !may_be(form, bytes) {
-        return Walked::Broken;
+        return None;
     }
     let mut end = bytes.len() - form.end();
     let entries = number4(bytes, end);
-    let mut left = entries;
     let mut found = 0;
-    while 0 < left {
-        let step = entry_before(form, bytes, end);
-        let Step::Entry(e) = step else {
-            return Walked::Broken;
-        };
-        left -= 1;
-        found = kept(left, place, end, found);
-        end = wide4(e.start);
+    for left in (0..entries as usize).rev() {
+        let e = entry_before(form, bytes, end)?;
+        if left == place {
+            found = end;
+        }
+        end = e.start as usize;
     }
-    if end == 0 {
-        Walked::Whole(entries as u32, found)
-    } else {
-        Walked::Broken
+    if end != 0 {
+        return None;
     }
+    Some(Walked {
+        entries,
+        end: found,
+    })
 }
 
 // The walk in form 1. Each form has a function of its own, so that the compiler knows the form inside the loop.
-fn walk_one(bytes: &[u8], place: usize) -> Walked
+fn walk_one(bytes: &[u8], place: usize) -> Option<Walked>
     ensures { result ≡ walk_of One (read_record One bytes.now) place }
 {
     walk_back(Form::One, bytes, place)
 }
 
 // The walk in form 2.
-fn walk_two(bytes: &[u8], place: usize) -> Walked
+fn walk_two(bytes: &[u8], place: usize) -> Option<Walked>
     ensures { result ≡ walk_of Two (read_record Two bytes.now) place }
 {
     walk_back(Form::Two, bytes, place)
 }
 
 // The walk in either form.
-pub fn walk(form: Form, bytes: &[u8], place: usize) -> Walked
+pub fn walk(form: Form, bytes: &[u8], place: usize) -> Option<Walked>
     ensures { result ≡ walk_of form (read_record form bytes.now) place }
 {
     match form {
@@ -171,14 +155,12 @@ pub fn walk(form: Form, bytes: &[u8], place: usize) -> Walked
     }
 }
 
-// Puts bytes into a buffer from a place on.
+// Puts bytes into a buffer from a place on. `copy_from_slice` calls `memmove`, which the C interface does not want.
 pub fn copy_in(dst: &mut [u8], at: usize, src: &[u8])
     requires { at + length src.now ≤ length dst.old }
     ensures { dst.new ≡ put dst.old at src.now }
 {
-    let mut i = 0;
-    while i < src.len() {
+    for i in 0..src.len() {
         dst[at + i] = src[i];
-        i += 1;
     }
 }

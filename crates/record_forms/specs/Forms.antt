@@ -1,10 +1,10 @@
 -- The forms of a record (document 02 §2) as data: how long an entry's trailer and the record's end are, and what they hold beside what
 -- both forms have. Assumes nothing.
-use Rattle.std.specs.Prelude.{cond, ℕ, ◌+◌, eqb}
+use Rattle.std.specs.Prelude.{cond, ℕ, ◌+◌, eqb, Result, Ok, Err}
+use Rattle.refusals.specs.declared.Refusal.{Refusal}
+use Rattle.refusals.specs.declared.Refusal.TheVariants as refusal
 use Rattle.record_forms.specs.declared.Form.{Form}
 use Rattle.record_forms.specs.declared.Form.TheVariants as form
-use Rattle.record_forms.specs.declared.Which.{Which}
-use Rattle.record_forms.specs.declared.Which.TheVariants as which
 
 -- the bytes of an entry that hold its bits
 abbrev pub bits_size : Form → ℕ
@@ -29,5 +29,5 @@ abbrev pub end_size : Form → ℕ
 end_size f = 4 + mark_size f
 
 -- "1 or 2, all 32 bits looked at"
-unfoldable pub which_form : ℕ → Which
-which_form n = cond (eqb n 1) (which.Is form.One) (cond (eqb n 2) (which.Is form.Two) which.NoForm)
+unfoldable pub which_form : ℕ → Result Form Refusal
+which_form n = cond (eqb n 1) (Ok form.One) (cond (eqb n 2) (Ok form.Two) (Err refusal.Setting))

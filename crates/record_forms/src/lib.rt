@@ -1,11 +1,13 @@
 // The two forms of a session record, as data: how long an entry's trailer and the record's end are (specs/Forms.antt), which form a number
-// names; and the ranges of an entry's fields (specs/Ranges.antt). It stands over nothing.
+// names; and the ranges of an entry's fields (specs/Ranges.antt). It stands over `refusals`.
 // Inner: `record_bytes` and what stands over it. It asks nothing but for `bits_in_range`, whose caller has tested the count.
 #![tactic(auto)]
 
 ghost use Rattle.std.specs.Prelude.{◌≡◌, ◌≤◌};
 ghost use Rattle.record_forms.specs.Forms.{trailer_size, end_size, which_form};
 ghost use Rattle.record_forms.specs.Ranges.{bits_in_range, in_range, held_bits};
+
+use refusals::Refusal;
 
 // A record's form.
 #[derive(Clone, Copy)]
@@ -14,11 +16,20 @@ pub enum Form {
     Two,
 }
 
-// The form that a number names.
-#[derive(Clone, Copy)]
-pub enum Which {
-    Is(Form),
-    NoForm,
+// The form that a number names: 1 or 2, all bits of the number looked at.
+impl TryFrom<u32> for Form {
+    type Error = Refusal;
+
+    ghost try_from_gives = { λ number form. form ≡ which_form number };
+
+    #[tactic(auto, using(std::proofs::lemmas::Bool::Decides::nat_tests), unfolding(crate::specs::Forms::which_form))]
+    fn try_from(number: u32) -> Result<Form, Refusal> {
+        match number {
+            1 => Ok(Form::One),
+            2 => Ok(Form::Two),
+            _ => Err(Refusal::Setting),
+        }
+    }
 }
 
 impl Form {
@@ -53,18 +64,8 @@ impl Form {
     }
 }
 
-// The caller says which form: 1 or 2, all bits of the number looked at.
-pub fn which_form(number: u32) -> Which
-    ensures { result ≡ which_form number }
-{
-    match number {
-        1 => Which::Is(Form::One),
-        2 => Which::Is(Form::Two),
-        _ => Which::NoForm,
-    }
-}
-
 // The range of an entry's bits, which are unknown or as many as so many changed semi-octets can have.
+#[tactic(auto, using(std::proofs::lemmas::Bool::Decides::nat_tests), unfolding(crate::specs::Ranges::bits_in_range))]
 fn bits_in_range(count: usize, bits: usize) -> bool
     requires { count ≤ 162 }
     ensures { result ≡ bits_in_range count bits }
@@ -79,6 +80,7 @@ fn bits_in_range(count: usize, bits: usize) -> bool
 }
 
 // The ranges of an entry's fields.
+#[tactic(auto, using(std::proofs::lemmas::Bool::Decides::nat_tests), unfolding(crate::specs::Ranges::in_range))]
 pub fn in_range(request: usize, count: usize, bits: usize, length: usize) -> bool
     ensures { result ≡ in_range request count bits length }
 {

@@ -12,14 +12,16 @@ use borrow.Author.Tests.{le-leb, lt-leb}
 use Rattle.record_forms.specs.declared.Form.{Form}
 use Rattle.record_forms.specs.declared.Form.TheVariants as form
 use Rattle.record_forms.specs.Forms.{end_size}
-use Rattle.record_bytes.specs.declared.Step.TheVariants as step
+use Rattle.std.specs.Prelude.{Some, None}
+use Rattle.std.specs.Prelude as std
+use Rattle.std.specs.Option.{IsSome}
 use Rattle.record_bytes.specs.declared.Located.{Located}
 use Rattle.record_bytes.specs.Layout.{RecordEntry, entries_bytes, most}
 use Rattle.record_bytes.specs.Reading.{entry_before, read_record}
 use Rattle.record_bytes.specs.Located.{located}
 use Rattle.record_bytes.specs.Steps.{step_of, Whole, put, Placed}
-use Rattle.record_answers.specs.Answers.{Answer, accepted, refused}
-use Rattle.record_listing.specs.declared.Known.TheVariants as known
+use Rattle.record_bytes.specs.Answers.{Answer, accepted, refused}
+use Rattle.record_listing.specs.declared.Known.{Known}
 use Rattle.record_listing.specs.Listing.{
   field,
   line,
@@ -27,6 +29,7 @@ use Rattle.record_listing.specs.Listing.{
   either,
   lines_of,
   lines_in,
+  known,
   known_from,
   known_in,
   read_either,
@@ -50,7 +53,7 @@ use Rattle.record_bytes.proofs.Standing.{
   Next,
   next,
   next-found,
-  next-not-broken,
+  next-there,
   next-standing,
 }
 use Rattle.record_bytes.proofs.Putting.{placed-none, placed-before}
@@ -116,7 +119,7 @@ module _ (f : Form) (s d : List ℕ) (n : ℕ) where
     last h = next f s w.es w.is end left w.later w.standing h
 
     -- the entry that was found, as the code has it
-    pub found-size : (v : Located) → 0 < left → step_of f (entry_before f s end) end ≡ step.Entry v → (v.length ≤ 400) × (v.start ≤ end)
+    pub found-size : (v : Located) → 0 < left → step_of f (entry_before f s end) end ≡ Some v → (v.length ≤ 400) × (v.start ≤ end)
     found-size v h q =
         let e = last h in
         let is = next-found f s w.es w.is end left w.later e v q in
@@ -127,7 +130,7 @@ module _ (f : Form) (s d : List ℕ) (n : ℕ) where
 
     pub lining-turn : (after2 : List ℕ) (r : ℕ) (v : Located) → 0 < left
         → Placed after after2 r at (line (left - 1) v.length v.request v.count) → at ≤ r + 20
-        → step_of f (entry_before f s end) end ≡ step.Entry v → Lining f s d after2 v.start (left - 1) r n
+        → step_of f (entry_before f s end) end ≡ Some v → Lining f s d after2 v.start (left - 1) r n
     unfolding lines
     lining-turn after2 r v h p u q =
         let e = last h in
@@ -147,9 +150,9 @@ module _ (f : Form) (s d : List ℕ) (n : ℕ) where
           room = omega (arith, w.room);
         }
 
-    -- a record's walk does not stop
-    pub lining-stop : 0 < left → step_of f (entry_before f s end) end ≡ step.Broken → ⊥
-    lining-stop h q = next-not-broken f s w.es w.is end left w.later (last h) q
+    -- a record's walk finds an entry as long as some are left
+    pub lining-there : 0 < left → (o : std.Option Located) → o ≡ step_of f (entry_before f s end) end → IsSome o
+    lining-there h = next-there f s w.es w.is end left w.later (last h)
 
   pub lining-done : (after : List ℕ) (end left at : ℕ) → left ≡ 0 → Lining f s d after end left at n
       → Placed d after at (length d) (lines_of (read_record f s))
@@ -186,36 +189,39 @@ pub record Reads (f : Form) (s : List ℕ) (n : ℕ) : Type 0 where
   pub whole : Whole f s n
   pub either_read : read_either s ≡ some whole.es
 
-pub known-record : (s : List ℕ) (f : Form) (n : ℕ) → known_in s ≡ known.Record f n → Reads f s n
+same-known : (f g : Form) (n m : ℕ) → known f n ≡ known g m → (f ≡ g) × (n ≡ m)
+same-known f g n m e =
+    let k : ◌≡◌ {A = Known} (record { form = f; entries = n }) (record { form = g; entries = m }) = cc in
+    (ap (λ (x : Known). x.form) k, ap (λ (x : Known). x.entries) k)
+
+pub known-record : (s : List ℕ) (f : Form) (n : ℕ) → known_in s ≡ known f n → Reads f s n
 unfolding known_in
 known-record s f n k = go (read_record form.Two s) (read_record form.One s) refl refl k
   where
     go : (two one : Option (List RecordEntry)) → read_record form.Two s ≡ two → read_record form.One s ≡ one
-        → known_from two one ≡ known.Record f n → Reads f s n
+        → known_from two one ≡ known f n → Reads f s n
     go (some es) one p q r =
-        let g : form.Two ≡ f = cc in
-        let c : n ≡ length es = cc in
-        subst (λ (x : Form). Reads x s n) g (record { whole = record { es = es; read = p; counted = c }; either_read = rw p refl })
+        let e = same-known form.Two f (length es) n r in
+        subst (λ (x : Form). Reads x s n) e.0 (record { whole = record { es = es; read = p; counted = sym e.1 }; either_read = rw p refl })
     go none (some es) p q r =
-        let g : form.One ≡ f = cc in
-        let c : n ≡ length es = cc in
-        subst (λ (x : Form). Reads x s n) g (record { whole = record { es = es; read = q; counted = c }; either_read = rw (p, q) refl })
+        let e = same-known form.One f (length es) n r in
+        subst (λ (x : Form). Reads x s n) e.0 (record { whole = record { es = es; read = q; counted = sym e.1 }; either_read = rw (p, q) refl })
     go none none p q r = let z : ◌≡◌ {A = ℕ} 0 1 = cc in absurd (omega arith)
 
-known-damaged : (s : List ℕ) → known_in s ≡ known.Damaged → read_either s ≡ none
+known-damaged : (s : List ℕ) → known_in s ≡ None → read_either s ≡ none
 unfolding known_in
 known-damaged s k = go (read_record form.Two s) (read_record form.One s) k
   where
-    go : (two one : Option (List RecordEntry)) → known_from two one ≡ known.Damaged → either two one ≡ none
+    go : (two one : Option (List RecordEntry)) → known_from two one ≡ None → either two one ≡ none
     go (some es) one r = let z : ◌≡◌ {A = ℕ} 0 1 = cc in absurd (omega arith)
     go none (some es) r = let z : ◌≡◌ {A = ℕ} 0 1 = cc in absurd (omega arith)
     go none none r = refl
 
-pub listing-damaged : (s : List ℕ) → length s ≤ 65536 → known_in s ≡ known.Damaged → listing s ≡ damaged
+pub listing-damaged : (s : List ℕ) → length s ≤ 65536 → known_in s ≡ None → listing s ≡ damaged
 unfolding listing
 listing-damaged s h k = simp (le-leb (length s) 65536 h) (ap listing_of (known-damaged s k))
 
-pub listing-record : (s : List ℕ) (f : Form) (n : ℕ) → length s ≤ 65536 → known_in s ≡ known.Record f n
+pub listing-record : (s : List ℕ) (f : Form) (n : ℕ) → length s ≤ 65536 → known_in s ≡ known f n
     → listing s ≡ records ++ (field n newline ++ lines_in f s)
 unfolding listing
 listing-record s f n h k =

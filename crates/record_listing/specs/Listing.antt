@@ -1,15 +1,13 @@
 -- The listing of a record of either form (document 01, "The program reads a record on standard input"), in ASCII. Assumes nothing.
-use Rattle.std.specs.Prelude.{cond, List, [], ◌∷◌, ◌++◌, ℕ, zero, suc, ◌+◌, ◌-◌, ◌/◌, ◌%◌, length, take, leb, eqb}
+use Rattle.std.specs.Prelude.{cond, List, [], ◌∷◌, ◌++◌, ℕ, zero, suc, ◌+◌, ◌-◌, ◌/◌, ◌%◌, length, take, leb, eqb, Some, None}
+use Rattle.std.specs.Prelude as std
 use Rattle.std.proofs.Math.Option.{Option, none, some}
 use Rattle.record_forms.specs.declared.Form.{Form}
 use Rattle.record_forms.specs.declared.Form.TheVariants as form
 use Rattle.record_bytes.specs.Layout.{RecordEntry, most}
 use Rattle.record_bytes.specs.Reading.{read_record}
-use Rattle.record_answers.specs.Answers.{Answer, accepted, refused}
+use Rattle.record_bytes.specs.Answers.{Answer, accepted, refused}
 use Rattle.record_listing.specs.declared.Known.{Known}
-use Rattle.record_listing.specs.declared.Known.TheVariants as known
-use Rattle.record_listing.specs.declared.Listed.{Listed}
-use Rattle.record_listing.specs.declared.Listed.TheVariants as listed
 
 -- the decimal digits of n, at most k of them, and none for 0
 unfoldable pub leading : ℕ → ℕ → List ℕ
@@ -65,13 +63,17 @@ lines_of (some es) = lines 0 es
 abbrev pub lines_in : Form → List ℕ → List ℕ
 lines_in f s = lines_of (read_record f s)
 
--- what the bytes are, from what both forms read
-abbrev pub known_from : Option (List RecordEntry) → Option (List RecordEntry) → Known
-known_from (some es) one = known.Record form.Two (length es)
-known_from none (some es) = known.Record form.One (length es)
-known_from none none = known.Damaged
+-- a record of a form, of so many entries
+abbrev pub known : Form → ℕ → std.Option Known
+known f n = Some (record { form = f; entries = n })
 
-unfoldable pub known_in : List ℕ → Known
+-- what the bytes are, from what both forms read
+abbrev pub known_from : Option (List RecordEntry) → Option (List RecordEntry) → std.Option Known
+known_from (some es) one = known form.Two (length es)
+known_from none (some es) = known form.One (length es)
+known_from none none = None
+
+unfoldable pub known_in : List ℕ → std.Option Known
 known_in s = known_from (read_record form.Two s) (read_record form.One s)
 
 -- "as form 2 if it is one, else as form 1"
@@ -87,9 +89,9 @@ unfoldable pub listing : List ℕ → List ℕ
 listing s = cond (leb (length s) most) (listing_of (read_either s)) too_long
 
 -- where the listing starts in a buffer of at least 65,536 bytes, at the end of which it is put; 6 in a shorter one
-abbrev pub listed_answer : Listed → Answer
-listed_answer (listed.From n) = accepted n
-listed_answer listed.NoRoom = refused 6
+abbrev pub listed_answer : std.Option ℕ → Answer
+listed_answer (Some n) = accepted n
+listed_answer None = refused 6
 
 unfoldable pub list_answer : List ℕ → List ℕ → Answer
 list_answer s out = cond (leb most (length out)) (accepted (length out - length (listing s))) (refused 6)

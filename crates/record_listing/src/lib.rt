@@ -7,29 +7,21 @@ ghost use Rattle.record_bytes.specs.Steps.{Whole, Placed};
 ghost use Rattle.record_listing.specs.Listing.{leading, field, line, lines_in, known_in};
 ghost use Rattle.record_listing.specs.Listing.{listed_answer, list_answer, list_buffer};
 
-use record_bytes::{Located, Step, Walked, copy_in, entry_before, walk};
+use record_bytes::{Located, copy_in, entry_before, walk};
 use record_forms::Form;
-use widening::{wide, wide2, wide4};
 
-// Where the listing starts in the buffer.
+// What the bytes are: a record of a form, with so many entries.
 #[derive(Clone, Copy)]
-pub enum Listed {
-    From(usize),
-    NoRoom,
-}
-
-// What the bytes are: a record of a form, with so many entries, or none.
-#[derive(Clone, Copy)]
-pub enum Known {
-    Record(Form, u32),
-    Damaged,
+pub struct Known {
+    pub form: Form,
+    pub entries: u32,
 }
 
 fn digit(d: usize) -> u8
     requires { d < 10 }
     ensures { result ≡ 48 + d }
 {
-    48 + d as u8
+    b'0' + d as u8
 }
 
 // Puts the digits of n, none for 0, so that they end before `end`, and answers where they start.
@@ -83,10 +75,10 @@ fn put_line(out: &mut [u8], end: usize, place: usize, e: Located) -> usize
     ensures placed { Placed out.old out.new result end (line place e.length e.request e.count) }
     ensures end_bound { end ≤ result + 20 }
 {
-    let count = put_field(out, end, wide(e.count), 10);
-    let request = put_field(out, count, wide(e.request), 32);
-    let length = put_field(out, request, wide2(e.length), 32);
-    put_field(out, length, place, 32)
+    let count = put_field(out, end, usize::from(e.count), b'\n');
+    let request = put_field(out, count, usize::from(e.request), b' ');
+    let length = put_field(out, request, usize::from(e.length), b' ');
+    put_field(out, length, place, b' ')
 }
 
 // Puts the lines of a record of n entries at the end of the buffer, the youngest first.
@@ -99,53 +91,49 @@ fn put_lines(form: Form, bytes: &[u8], n: usize, out: &mut [u8]) -> usize
 {
     let mut at = out.len();
     let mut end = bytes.len() - form.end();
-    let mut left = n;
-    while 0 < left {
-        let step = entry_before(form, bytes, end);
-        let Step::Entry(e) = step else {
-            return at;
-        };
-        left -= 1;
+    for left in (0..n).rev() {
+        // The record has an entry there.
+        let e = entry_before(form, bytes, end).unwrap();
         at = put_line(out, at, left, e);
-        end = wide4(e.start);
+        end = e.start as usize;
     }
     at
 }
 
 // A record of form 2 if the bytes are one, else of form 1, else none.
-fn either_form(bytes: &[u8]) -> Known
+fn either_form(bytes: &[u8]) -> Option<Known>
     ensures { result ≡ known_in bytes.now }
 {
-    let two = walk(Form::Two, bytes, 0);
-    match two {
-        Walked::Whole(n, _) => Known::Record(Form::Two, n),
-        Walked::Broken => {
-            let one = walk(Form::One, bytes, 0);
-            match one {
-                Walked::Whole(n, _) => Known::Record(Form::One, n),
-                Walked::Broken => Known::Damaged,
-            }
-        }
+    if let Some(two) = walk(Form::Two, bytes, 0) {
+        return Some(Known {
+            form: Form::Two,
+            entries: two.entries,
+        });
     }
+    let one = walk(Form::One, bytes, 0)?;
+    Some(Known {
+        form: Form::One,
+        entries: one.entries,
+    })
 }
 
-// Puts the listing at the end of a buffer of at least 65,536 bytes.
-pub fn list(bytes: &[u8], out: &mut [u8]) -> Listed
+// Puts the listing at the end of a buffer of at least 65,536 bytes, and answers where it starts; none where the buffer is shorter.
+pub fn list(bytes: &[u8], out: &mut [u8]) -> Option<usize>
     ensures result_value { listed_answer result ≡ list_answer bytes.now out.old }
     ensures out_after { out.new ≡ list_buffer bytes.now out.old }
 {
     let end = out.len();
     if end < 65536 {
-        return Listed::NoRoom;
+        return None;
     }
     if 65536 < bytes.len() {
-        return Listed::From(put_text(out, end, b"too long\n"));
+        return Some(put_text(out, end, b"too long\n"));
     }
-    let found = either_form(bytes);
-    let Known::Record(form, n) = found else {
-        return Listed::From(put_text(out, end, b"damaged\n"));
+    let Some(known) = either_form(bytes) else {
+        return Some(put_text(out, end, b"damaged\n"));
     };
-    let below = put_lines(form, bytes, wide4(n), out);
-    let at = put_field(out, below, wide4(n), 10);
-    Listed::From(put_text(out, at, b"records "))
+    let n = known.entries as usize;
+    let below = put_lines(known.form, bytes, n, out);
+    let at = put_field(out, below, n, b'\n');
+    Some(put_text(out, at, b"records "))
 }

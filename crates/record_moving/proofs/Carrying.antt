@@ -1,6 +1,7 @@
 -- The walk that writes what it reads: the entries of a record, put one in front of the other in another form. Assumes nothing.
 use mathlib.Core.Path.{◌≡◌, refl, sym, ap, ◌∙◌, subst}
 use mathlib.Core.Bool.{and-false}
+use mathlib.Core.Logic.{◌⊎◌, inl, inr}
 use mathlib.Core.Option.{none, some}
 use mathlib.Core.List.{List, [], ◌∷◌, ◌++◌}
 use Prim.Native.Nat.{ℕ, suc, ◌+◌, ◌*◌, ◌-◌, ◌≤◌, ◌<◌}
@@ -13,7 +14,9 @@ use Rattle.record_forms.specs.declared.Form.{Form}
 use Rattle.record_forms.specs.Forms.{trailer_size, end_size}
 use Rattle.record_forms.proofs.Sizes.{bits_most}
 use Rattle.record_forms.proofs.Ranges.{in-range-of}
-use Rattle.record_bytes.specs.declared.Step.TheVariants as step
+use Rattle.std.specs.Prelude.{Some}
+use Rattle.std.specs.Prelude as std
+use Rattle.std.specs.Option.{IsSome}
 use Rattle.record_bytes.specs.declared.Located.{Located}
 use Rattle.record_bytes.specs.Layout.{
   RecordEntry,
@@ -26,7 +29,7 @@ use Rattle.record_bytes.specs.Layout.{
 }
 use Rattle.record_bytes.specs.Reading.{entry_before, read_record}
 use Rattle.record_bytes.specs.Steps.{step_of, Whole, put, Placed}
-use Rattle.record_answers.specs.Answers.{accepted, refused}
+use Rattle.record_bytes.specs.Answers.{accepted, refused}
 use Rattle.record_moving.specs.Moving.{move_fits, move_answer, move_buffer, entries_as, moved_entries}
 use Rattle.record_bytes.proofs.Numbers.{Bytes}
 use Rattle.record_bytes.proofs.Inverse.{length-trailer, length-entry, length-end, length-record, count_most, entries-append, Read, is_read}
@@ -37,7 +40,7 @@ use Rattle.record_bytes.proofs.Standing.{
   Next,
   next,
   next-found,
-  next-not-broken,
+  next-there,
   next-standing,
   next-long,
   next-bytes,
@@ -77,12 +80,12 @@ moved_length from to es =
     omega arith
 
 -- what stands beside the frames of so many entries
-pub beside-most : (f : Form) (n k : ℕ) → k ≡ trailer_size f → n ≤ 65536 → n * k ≤ 393216
+pub beside-most : (f : Form) (n k : ℕ) → k ≡ trailer_size f → n ≤ 65536 → (n * k ≡ n * trailer_size f) × (n * k ≤ 393216)
 beside-most f n k e h =
     let b = bits_most f in
     let t : k ≤ 6 = omega arith in
     let m : n * k ≤ 65536 * 6 = mul-le-mul h t in
-    omega arith
+    (ap (λ (i : ℕ). n * i) e, omega arith)
 
 length-at : (f : Form) (es a : List RecordEntry) (e : RecordEntry) (b : List RecordEntry) → es ≡ a ++ (e ∷ b)
     → length (entries_bytes f es) ≡ length (entries_bytes f a) + ((length e.frame + trailer_size f) + length (entries_bytes f b))
@@ -95,21 +98,19 @@ length-at f es a e b j = ap (λ (l : List RecordEntry). length (entries_bytes f 
 -- ---- one entry
 
 -- an entry that is put with its frame from the record ends where it is to end
-pub entry-placed : (f : Form) (s d after : List ℕ) (v : Located) (n start size end : ℕ) → n ≡ v.length → start ≡ v.start
-    → size ≡ trailer_size f → v.start + v.length ≤ length s → v.length + trailer_size f ≤ end → end ≤ length d
-    → (let x = take (start + n - start) (drop start s) in
+pub entry-placed : (f : Form) (s d after : List ℕ) (v : Located) (n size end : ℕ) → n ≡ v.length → size ≡ trailer_size f → v.start + v.length ≤ length s → v.length + trailer_size f ≤ end → end ≤ length d
+    → (let x = take (v.start + n - v.start) (drop v.start s) in
     after ≡ put d (end - (n + size)) (x ++ trailer_bytes f v.request v.count v.bits (length x)))
     → Placed d after (end - (n + size)) end
     (take v.length (drop v.start s) ++ trailer_bytes f v.request v.count v.bits v.length)
-entry-placed f s d after v n start size end en es ez hs he hd p =
+entry-placed f s d after v n size end en ez hs he hd p =
     let at : ℕ = end - (n + size) in
     let x : List ℕ = take v.length (drop v.start s) in
     let t : ℕ → List ℕ = trailer_bytes f v.request v.count v.bits in
     let lx : length x ≡ v.length = length-take-le v.length (drop v.start s) (rw length-drop (omega arith)) in
     let lt : length (t v.length) ≡ trailer_size f = length-trailer f v.request v.count v.bits v.length in
-    let first : take (start + n - start) (drop start s) ≡ x =
-    ap (λ (k : ℕ). take k (drop start s)) (add-sub_cancel_left start n)
-    ∙ ap (λ (k : ℕ). take k (drop start s)) en ∙ ap (λ (k : ℕ). take v.length (drop k s)) es in
+    let first : take (v.start + n - v.start) (drop v.start s) ≡ x =
+    ap (λ (k : ℕ). take k (drop v.start s)) (add-sub_cancel_left v.start n ∙ en) in
     record {
       sized = ap (λ (k : ℕ). at + k) (length-append x (t v.length)) ∙ (omega arith);
       placed = p ∙ ap (λ (y : List ℕ). put d at (y ++ t (length y))) first ∙ ap (λ (k : ℕ). put d at (x ++ t k)) lx;
@@ -155,7 +156,7 @@ module _ (from to : Form) (s d : List ℕ) (n end : ℕ) where
       pub room : v.length + trailer_size to ≤ at
       pub lower : v.start ≤ place
 
-    pub found : (v : Located) → 0 < left → step_of from (entry_before from s place) place ≡ step.Entry v → Found v
+    pub found : (v : Located) → 0 < left → step_of from (entry_before from s place) place ≡ Some v → Found v
     found v h q =
         let e = last h in
         let x = e.entry in
@@ -172,7 +173,7 @@ module _ (from to : Form) (s d : List ℕ) (n end : ℕ) where
         }
 
     -- what is put is the entry in the other form
-    pub carried : (v : Located) → 0 < left → step_of from (entry_before from s place) place ≡ step.Entry v → (after2 : List ℕ) (r : ℕ)
+    pub carried : (v : Located) → 0 < left → step_of from (entry_before from s place) place ≡ Some v → (after2 : List ℕ) (r : ℕ)
         → Placed after after2 r at
         (take v.length (drop v.start s) ++ trailer_bytes to v.request v.count v.bits v.length)
         → end ≤ length d → Carrying from to s d after2 n end r v.start (left - 1)
@@ -198,8 +199,8 @@ module _ (from to : Form) (s d : List ℕ) (n end : ℕ) where
               (subst (Placed after after2 r at) whole p);
         }
 
-    pub not-broken : 0 < left → step_of from (entry_before from s place) place ≡ step.Broken → ⊥
-    not-broken h q = next-not-broken from s w.es w.is place left w.later (last h) q
+    pub there : 0 < left → (o : std.Option Located) → o ≡ step_of from (entry_before from s place) place → IsSome o
+    there h = next-there from s w.es w.is place left w.later (last h)
 
   pub carried-all : (after : List ℕ) (at place left : ℕ) → left ≡ 0 → Carrying from to s d after n end at place left
       → after ≡ put d 0 (moved_entries from to s)
@@ -232,17 +233,15 @@ module _ (from to : Form) (s out : List ℕ) where
   move-none q = (rw q refl, rw q refl)
 
   module _ (n : ℕ) (w : Whole from s n) where
-    pub move-short : length out < length (record_bytes to w.es)
+    pub move_full : (length out < length (record_bytes to w.es))
+        ⊎ ((length (record_bytes to w.es) ≤ length out) × (65536 < length (record_bytes to w.es)))
         → (refused 6 ≡ move_answer from to s out) × (out ≡ move_buffer from to s out)
     unfolding move_answer move_buffer move_fits
-    move-short h =
+    move_full (inl h) =
         let t = lt-leb (length (record_bytes to w.es)) (length out) h in
         (rw w.read (simp t), rw w.read (simp t))
-
-    pub move-long : 65536 < length (record_bytes to w.es) → (refused 6 ≡ move_answer from to s out) × (out ≡ move_buffer from to s out)
-    unfolding move_answer move_buffer move_fits
-    move-long h =
-        let t = lt-leb (length (record_bytes to w.es)) 65536 h in
+    move_full (inr h) =
+        let t = lt-leb (length (record_bytes to w.es)) 65536 h.1 in
         (rw w.read (simp (t, and-false)), rw w.read (simp (t, and-false)))
 
     -- what the code's length is, and that it can be made

@@ -18,7 +18,7 @@ use Rattle.record_bytes.specs.declared.Located.{Located}
 use Rattle.record_bytes.specs.Layout.{RecordEntry, record_bytes, AllInRange, held, held_all, most}
 use Rattle.record_bytes.specs.Reading.{read_record}
 use Rattle.record_bytes.specs.Located.{locate}
-use Rattle.record_answers.specs.Answers.{Answer, accepted, refused}
+use Rattle.record_bytes.specs.Answers.{Answer, accepted, refused}
 use Rattle.record.specs.Answers.{entry_in, frame_at, frame_in}
 use Rattle.record_moving.specs.Moving.{move_fits, move_of, move_answer, moved_of, move_buffer, AllUnknown}
 use Rattle.record_bytes.proofs.Numbers.{Bytes}

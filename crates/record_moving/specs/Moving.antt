@@ -5,7 +5,7 @@ use Rattle.record_forms.specs.declared.Form.{Form}
 use Rattle.record_bytes.specs.Layout.{RecordEntry, entries_bytes, record_bytes, most}
 use Rattle.record_forms.specs.Ranges.{unknown}
 use Rattle.record_bytes.specs.Reading.{read_record}
-use Rattle.record_answers.specs.Answers.{Answer, accepted, refused}
+use Rattle.record_bytes.specs.Answers.{Answer, accepted, refused}
 
 -- whether the entries fit in the form: "`out` too short, or the moved record above 65,536 bytes" is a 6
 unfoldable pub move_fits : Form → List RecordEntry → List ℕ → Bool

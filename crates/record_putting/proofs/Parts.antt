@@ -1,20 +1,35 @@
--- Bytes put in parts are put as one: a frame in pieces that may overlap, an entry's trailer, the record's end. Assumes nothing.
+-- A number's bytes; and bytes put in parts are put as one: a frame in pieces that may overlap, an entry's trailer, the record's end.
+-- Assumes nothing.
 use mathlib.Core.Path.{◌≡◌, refl, sym, ap, ◌∙◌}
 use mathlib.Core.Bool.{Bool, true, false, cond}
 use mathlib.Core.List.{List, [], ◌∷◌, ◌++◌, append-nil}
-use Prim.Native.Nat.{ℕ, ◌+◌, ◌-◌, ◌≤◌, ◌<◌}
+use Prim.Native.Nat.{ℕ, ◌+◌, ◌-◌, ◌/◌, ◌≤◌, ◌<◌}
 use native.Mathlib.Omega.{arith}
 use lib.Dec.{leb}
 use lib.ListN.{length, take, drop, set, length-take, length-drop, take-append-drop}
 use lib.Seq.{take_all, take-add, take_at, drop_at, drop-drop, length-take-le}
 use borrow.Author.Tests.{leb-true, leb-false}
+use Rattle.std.specs.Int.{w16, w32, to_be_bytes}
 use Rattle.record_forms.specs.declared.Form.{Form}
 use Rattle.record_forms.specs.declared.Form.TheVariants as form
-use Rattle.record_forms.specs.Forms.{bits_size, trailer_size}
+use Rattle.record_forms.specs.Forms.{bits_size, trailer_size, end_size}
 use Rattle.record_bytes.specs.Layout.{big, trailer_bytes, end_bytes}
 use Rattle.record_bytes.specs.Steps.{put}
 use Rattle.record_bytes.proofs.Numbers.{length-big}
 use Rattle.record_bytes.proofs.Putting.{length-put, put-put, set-put}
+
+-- ---- numbers
+
+pub two_bytes : (n : ℕ) → to_be_bytes w16 n ≡ big 2 n
+unfolding big
+two_bytes n = refl
+
+pub four_bytes : (n : ℕ) → to_be_bytes w32 n ≡ big 4 n
+unfolding big
+four_bytes n =
+    let a : n / 65536 ≡ n / 256 / 256 = omega arith in
+    let b : n / 16777216 ≡ n / 256 / 256 / 256 = omega arith in
+    rw (a, b) refl
 
 -- bytes put at the start of an array, and as many taken from it
 pub put-taken : (d s : List ℕ) (n : ℕ) → n ≡ length s → take n (put d 0 s) ≡ s
@@ -138,20 +153,27 @@ trailer-put f d mid after at q c b n k e h p r =
 
 -- ---- the record's end
 
-pub end-one : (f : Form) (d after : List ℕ) (at n : ℕ) → f ≡ form.One → after ≡ put d at (big 4 n) → after ≡ put d at (end_bytes f n)
+pub end-one : (f : Form) (d after t : List ℕ) (at n : ℕ) → f ≡ form.One → t ≡ to_be_bytes w32 n → after ≡ put d at t
+    → after ≡ put d at (end_bytes f n)
 unfolding end_bytes big
-end-one f d after at n e p = p ∙ ap (put d at) (sym (append-nil (big 4 n)) ∙ ap (λ (g : Form). end_bytes g n) (sym e))
+end-one f d after t at n e b p =
+    p ∙ ap (put d at) (b ∙ four_bytes n ∙ sym (append-nil (big 4 n)) ∙ ap (λ (g : Form). end_bytes g n) (sym e))
 
 marked : (n : ℕ) → big 4 n ++ (2 ∷ []) ≡ end_bytes form.Two n
 unfolding end_bytes big
 marked n = refl
 
-pub end-two : (f : Form) (d mid : List ℕ) (at n : ℕ) → f ≡ form.Two → at + 5 ≤ length d → mid ≡ put d at (big 4 n)
-    → set mid (at + 4) 2 ≡ put d at (end_bytes f n)
+pub end-two : (f : Form) (d mid t : List ℕ) (at n : ℕ) → f ≡ form.Two → t ≡ to_be_bytes w32 n → at + end_size f ≤ length d
+    → mid ≡ put d at t → (at + 4 < length mid) × (set mid (at + 4) 2 ≡ put d at (end_bytes f n))
 unfolding end_bytes
-end-two f d mid at n e h p =
+end-two f d mid t at n e b h p =
+    let five : end_size f ≡ 5 = ap end_size e in
     let l : length (big 4 n) ≡ 4 = length-big 4 n in
     let m : length (put d at (big 4 n)) ≡ length d = length-put d at (big 4 n) (omega arith) in
-    ap (λ (x : List ℕ). set x (at + 4) 2) p ∙ set-put (put d at (big 4 n)) (at + 4) 2 (omega arith)
-    ∙ ap (λ (i : ℕ). put (put d at (big 4 n)) (at + i) (2 ∷ [])) (sym l) ∙ put-put d at (big 4 n) (2 ∷ []) (omega arith)
-    ∙ ap (put d at) (marked n ∙ ap (λ (g : Form). end_bytes g n) (sym e))
+    let q : mid ≡ put d at (big 4 n) = p ∙ ap (put d at) (b ∙ four_bytes n) in
+    let long : length mid ≡ length d = ap length q ∙ m in (
+      omega arith,
+      ap (λ (x : List ℕ). set x (at + 4) 2) q ∙ set-put (put d at (big 4 n)) (at + 4) 2 (omega arith)
+          ∙ ap (λ (i : ℕ). put (put d at (big 4 n)) (at + i) (2 ∷ [])) (sym l) ∙ put-put d at (big 4 n) (2 ∷ []) (omega arith)
+          ∙ ap (put d at) (marked n ∙ ap (λ (g : Form). end_bytes g n) (sym e)),
+    )

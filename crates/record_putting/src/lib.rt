@@ -11,36 +11,12 @@ ghost use Rattle.record_bytes.specs.Steps.{put};
 use record_bytes::copy_in;
 use record_forms::Form;
 
-// A number in two bytes.
-fn two(n: u16) -> [u8; 2]
-    ensures { result ≡ big 2 n }
-{
-    let high = n / 256;
-    [(high % 256) as u8, (n % 256) as u8]
-}
-
-// A number in four bytes.
-fn four(n: u32) -> [u8; 4]
-    ensures { result ≡ big 4 n }
-{
-    let a = n / 256;
-    let b = a / 256;
-    let c = b / 256;
-    [
-        (c % 256) as u8,
-        (b % 256) as u8,
-        (a % 256) as u8,
-        (n % 256) as u8,
-    ]
-}
-
 // Puts the number of entries, and the form's mark behind it.
 pub fn put_end(form: Form, out: &mut [u8], at: usize, n: u32)
     requires { at + end_size form ≤ length out.old }
     ensures { out.new ≡ put out.old at (end_bytes form n) }
 {
-    let number = four(n);
-    copy_in(out, at, &number);
+    copy_in(out, at, &n.to_be_bytes());
     match form {
         Form::One => {}
         Form::Two => {
@@ -57,8 +33,7 @@ fn put_bits(form: Form, out: &mut [u8], at: usize, bits: u16)
     match form {
         Form::One => {}
         Form::Two => {
-            let b = two(bits);
-            copy_in(out, at, &b);
+            copy_in(out, at, &bits.to_be_bytes());
         }
     }
 }
@@ -68,11 +43,10 @@ fn put_trailer(form: Form, out: &mut [u8], at: usize, request: u8, count: u8, bi
     requires { at + trailer_size form ≤ length out.old }
     ensures { out.new ≡ put out.old at (trailer_bytes form request count bits size) }
 {
-    let l = two(size);
     out[at] = request;
     out[at + 1] = count;
     put_bits(form, out, at + 2, bits);
-    copy_in(out, at + (form.trailer() - 2), &l);
+    copy_in(out, at + (form.trailer() - 2), &size.to_be_bytes());
 }
 
 // Puts up to 32 bytes by way of an array of its own, so that the compiler need not ask whether the two overlap.
@@ -98,6 +72,7 @@ fn put_middle(out: &mut [u8], at: usize, frame: &[u8], i: usize, last: usize)
 }
 
 // Puts a frame by parts of 32 bytes, then what is left by two of sixteen, of which the second ends where it ends.
+// One `copy_from_slice` of the whole is slower at 20 bytes.
 fn put_frame(out: &mut [u8], at: usize, frame: &[u8])
     requires in_bounds { 16 ≤ length frame.now }
     requires frame_len_bound { length frame.now ≤ 65535 }

@@ -20,7 +20,7 @@ use Rattle.record_forms.specs.declared.Which.TheVariants as which
 use Rattle.record_forms.specs.Forms.{which_form}
 use Rattle.record_bytes.specs.Layout.{RecordEntry}
 use Rattle.record_bytes.specs.Reading.{read_record}
-use Rattle.record_answers.specs.Answers.{EntryAnswer}
+use Rattle.record_bytes.specs.Answers.{EntryAnswer}
 use Rattle.record.specs.Answers.{frame_at, frame_in, frame_part, entry_of, entry_in}
 use Rattle.record.specs.Answers as part
 use Rattle.record_bytes.proofs.Numbers.{Bytes}

@@ -1,4 +1,4 @@
-// The session record in both forms with document 01's numbers and C's structs in place of the enum answers: new, entries, entry and add.
+// The session record in both forms with document 01's numbers and C's structs in place of the results: new, entries, entry and add.
 // It stands over `record`.
 // Inner: `silberlaus` stands over it. It asks nothing.
 #![tactic(auto)]
@@ -6,11 +6,13 @@
 ghost use Rattle.std.specs.Prelude.{◌≡◌};
 ghost use Rattle.record_forms.specs.declared.Form.TheVariants.{Two};
 ghost use Rattle.record_bytes.specs.Located.{nowhere};
+ghost use Rattle.record_bytes.specs.Answers.{value_answer, found_answer};
 ghost use Rattle.record.specs.Answers.{new_number, new_buffer, entries_answer, entry_answer, asked, add_answer, add_buffer};
 ghost use Rattle.record.specs.Meaning.{CountMeans, StoredBy};
 ghost use Rattle.silberlaus_records.specs.Records.{entries_given, entry_given, added_given};
 
-use record::{Added, Counted, Found, Located};
+use record::Located;
+use refusals::{Refusal, numbered};
 
 // C's silberlaus_entries.
 #[repr(C)]
@@ -40,34 +42,33 @@ pub struct SilberlausAdded {
     pub used: u32,
 }
 
-// A record of no entries at the start of the buffer, or 1 for a form that there is not, or 6.
-pub fn new(form: u32, buffer: &mut [u8]) -> u8
-    ensures value { result ≡ new_number form buffer.old }
-    ensures buffer_after { buffer.new ≡ new_buffer form buffer.old }
-{
-    record::new(form, buffer).number()
+// The number of entries; a refusal has its number and no entries.
+impl From<Result<u32, Refusal>> for SilberlausEntries {
+    ghost from_gives = { λ counted given. entries_given given ≡ value_answer counted };
+
+    fn from(counted: Result<u32, Refusal>) -> SilberlausEntries {
+        match counted {
+            Ok(entries) => SilberlausEntries { number: 0, entries },
+            Err(why) => SilberlausEntries {
+                number: why.number(),
+                entries: 0,
+            },
+        }
+    }
 }
 
-// A refusal: its number, and no entries.
-fn no_entries(number: u8) -> SilberlausEntries
-    ensures { result ≡ record { number = number; entries = 0 } }
-{
-    SilberlausEntries { number, entries: 0 }
-}
+// The used length; a refusal has its number and no used length.
+impl From<Result<u32, Refusal>> for SilberlausAdded {
+    ghost from_gives = { λ added given. added_given given ≡ value_answer added };
 
-// The number of a record's entries, or 1 for a form that there is not, or 7.
-pub fn entries(form: u32, bytes: &[u8]) -> SilberlausEntries
-    ensures result_value { entries_given result ≡ entries_answer form bytes.now }
-    ensures count_means { CountMeans form (entries_given result) bytes.now }
-{
-    let counted = record::entries(form, bytes);
-    match counted {
-        Counted::Entries(n) => SilberlausEntries {
-            number: 0,
-            entries: n,
-        },
-        Counted::NoForm => no_entries(1),
-        Counted::NotRecord => no_entries(7),
+    fn from(added: Result<u32, Refusal>) -> SilberlausAdded {
+        match added {
+            Ok(used) => SilberlausAdded { number: 0, used },
+            Err(why) => SilberlausAdded {
+                number: why.number(),
+                used: 0,
+            },
+        }
     }
 }
 
@@ -99,24 +100,39 @@ fn entry_with(number: u8, e: Located) -> SilberlausEntry
     }
 }
 
+// The entry's fields; a refusal has its number and no entry.
+impl From<Result<Located, Refusal>> for SilberlausEntry {
+    ghost from_gives = { λ found given. entry_given given ≡ found_answer found };
+
+    fn from(found: Result<Located, Refusal>) -> SilberlausEntry {
+        match found {
+            Ok(e) => entry_with(0, e),
+            Err(why) => entry_with(why.number(), no_entry()),
+        }
+    }
+}
+
+// A record of no entries at the start of the buffer, or 1 for a form that there is not, or 6.
+pub fn new(form: u32, buffer: &mut [u8]) -> u8
+    ensures value { result ≡ new_number form buffer.old }
+    ensures buffer_after { buffer.new ≡ new_buffer form buffer.old }
+{
+    numbered(record::new(form, buffer))
+}
+
+// The number of a record's entries, or 1 for a form that there is not, or 7.
+pub fn entries(form: u32, bytes: &[u8]) -> SilberlausEntries
+    ensures result_value { entries_given result ≡ entries_answer form bytes.now }
+    ensures count_means { CountMeans form (entries_given result) bytes.now }
+{
+    SilberlausEntries::from(record::entries(form, bytes))
+}
+
 // An entry's fields, or 1 for a form that there is not, or 7, or 1 for a place that it has not.
 pub fn entry(form: u32, bytes: &[u8], place: usize) -> SilberlausEntry
     ensures { entry_given result ≡ entry_answer form bytes.now place }
 {
-    let found = record::entry(form, bytes, place);
-    match found {
-        Found::At(e) => entry_with(0, e),
-        Found::NoForm => entry_with(1, no_entry()),
-        Found::NotRecord => entry_with(7, no_entry()),
-        Found::NoPlace => entry_with(1, no_entry()),
-    }
-}
-
-// A refusal: its number, and no used length.
-fn not_added(number: u8) -> SilberlausAdded
-    ensures { result ≡ record { number = number; used = 0 } }
-{
-    SilberlausAdded { number, used: 0 }
+    SilberlausEntry::from(record::entry(form, bytes, place))
 }
 
 // An entry added to a record of form 2 and the new used length, or 1, 7 or 6.
@@ -134,10 +150,5 @@ pub fn add(
     ensures stored_by { StoredBy Two (added_given result) buffer.old buffer.new used (asked frame.now request count bits) }
 {
     let added = record::add(buffer, used, frame, request, count, bits, length);
-    match added {
-        Added::Used(n) => SilberlausAdded { number: 0, used: n },
-        Added::BadSetting => not_added(1),
-        Added::NotRecord => not_added(7),
-        Added::NoRoom => not_added(6),
-    }
+    SilberlausAdded::from(added)
 }

@@ -7,6 +7,3 @@ use Rattle.record_bytes.proofs.walk_back.Given as goal
 
 abbrev pub invariant-loop-left : goal.invariant-loop-left
 invariant-loop-left l = (l.end ≤ length l.bytes) × (l.end ≤ 65536) × Walking l.form l.bytes l.end l.left l.place l.entries l.found
-
-abbrev pub decreases-loop-left : goal.decreases-loop-left
-decreases-loop-left l = l.left

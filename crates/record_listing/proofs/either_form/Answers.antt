@@ -3,29 +3,30 @@ use mathlib.Core.Path.{refl, sym, ap, ◌∙◌}
 use Prim.Native.Nat.{ℕ}
 use Rattle.record_forms.specs.declared.Form.TheVariants as form
 use Rattle.record_bytes.proofs.Walking.{whole-read, none_read}
-use Rattle.record_listing.specs.declared.Known.TheVariants as known
-use Rattle.record_listing.specs.Listing.{known_in}
+use Rattle.record_listing.specs.Listing.{known, known_in}
 use Rattle.record_listing.proofs.either_form.Goals as goal
 
-pub returns-in-Whole : goal.returns-in-Whole
+pub returns-in-Some : goal.returns-in-Some
 unfolding known_in
-returns-in-Whole c =
+returns-in-Some c =
     let s = c.args.bytes.now in
-    let k = whole-read form.Two s 0 c.in-Whole.n c.in-Whole.field-1 (sym c.walk-two.ensures ∙ c.in-Whole.is) in
-    rw k.read (ap (λ (n : ℕ). known.Record form.Two n) k.counted)
+    let w = c.in-Some.two in
+    let k = whole-read form.Two s 0 w.entries w.end (sym c.walk.ensures ∙ c.in-Some.is) in
+    rw k.read (ap (λ (n : ℕ). known form.Two n) k.counted)
 
-pub returns-in-Whole-one : goal.returns-in-Whole-one
+pub returns-in_err-one : goal.returns-in_err-one
 unfolding known_in
-returns-in-Whole-one c =
+returns-in_err-one c =
     let s = c.args.bytes.now in
-    let no = none_read form.Two s 0 (sym c.walk-two.ensures ∙ c.in-Broken.is) in
-    let k = whole-read form.One s 0 c.in-Whole-one.n c.in-Whole-one.field-1 (sym c.walk-one.ensures ∙ c.in-Whole-one.is) in
-    rw (no, k.read) (ap (λ (n : ℕ). known.Record form.One n) k.counted)
+    let two = none_read form.Two s 0 (sym c.walk.ensures ∙ c.in_default.is) in
+    let one = none_read form.One s 0 (sym c.walk-2.ensures ∙ c.in_err-one.was) in
+    c.from_residual.ensures ∙ rw (two, one) refl
 
-pub returns-in-Broken-one : goal.returns-in-Broken-one
+pub returns : goal.returns
 unfolding known_in
-returns-in-Broken-one c =
+returns c =
     let s = c.args.bytes.now in
-    let no = none_read form.Two s 0 (sym c.walk-two.ensures ∙ c.in-Broken.is) in
-    let none = none_read form.One s 0 (sym c.walk-one.ensures ∙ c.in-Broken-one.is) in
-    rw (no, none) refl
+    let w = c.in_ok-one.one in
+    let two = none_read form.Two s 0 (sym c.walk.ensures ∙ c.in_default.is) in
+    let k = whole-read form.One s 0 w.entries w.end (sym c.walk-2.ensures ∙ c.in_ok-one.was) in
+    rw (two, k.read) (ap (λ (n : ℕ). known form.One n) k.counted)

@@ -1,13 +1,12 @@
 -- `record_listing::list` meets its contract: each way out puts the listing of what was read. Assumes nothing.
 use mathlib.Core.List.{◌++◌}
-use mathlib.Core.Path.{◌≡◌, sym, ap, ◌∙◌}
+use mathlib.Core.Path.{◌≡◌, sym, ◌∙◌}
 use Prim.Native.Nat.{◌≤◌}
 use native.Mathlib.Omega.{arith}
 use lib.ListN.{length}
 use Rattle.record_listing.proofs.Lines.{list-short, list-placed, listing-long, known-record, listing-damaged, listing-record}
 use Rattle.record_bytes.proofs.Putting.{placed-before}
-use Rattle.record_listing.specs.declared.Known.TheVariants as known
-use Rattle.record_listing.specs.Listing.{field, newline, lines_in, known_in, records, damaged, too_long}
+use Rattle.record_listing.specs.Listing.{known, field, newline, lines_in, known_in, records, damaged, too_long}
 use Rattle.record_listing.proofs.list.Goals as goal
 
 pub returns-then-end-lt65536 : goal.returns-then-end-lt65536
@@ -29,7 +28,7 @@ returns-in_default c =
     let s = c.args.bytes.now in
     let o = c.args.out.now in
     let p = c.put_text-in_default in
-    let none = sym c.either_form-found.ensures
+    let none = sym c.either_form.ensures
     ∙ c.in_default.is in
     let u = list-placed s o p.new.out damaged p.result (omega arith) (listing-damaged s (omega arith) none) p.ensures in
     record { result_value = u.0; out_after = u.1 }
@@ -37,9 +36,9 @@ returns-in_default c =
 pub put_lines-below-requires : goal.put_lines-below-requires
 put_lines-below-requires c =
     let s = c.args.bytes.now in
-    let r = known-record s c.in-Record.form c.in-Record.n (sym c.either_form-found.ensures ∙ c.in-Record.is) in
+    let r = known-record s c.in-Some.known.form c.in-Some.known.entries (sym c.either_form.ensures ∙ c.in-Some.is) in
     record {
-      whole = rw c.wide4.ensures r.whole;
+      whole = r.whole;
       in_bounds = omega arith;
     }
 
@@ -50,11 +49,10 @@ returns c =
     let p1 = c.put_lines-below in
     let p2 = c.put_field-at in
     let p3 = c.put_text-2 in
-    let w = c.wide4-2 in
-    let n = w.result in
-    let f = c.in-Record.form in
-    let whole : known_in s ≡ known.Record f n =
-    sym c.either_form-found.ensures ∙ c.in-Record.is ∙ ap (known.Record f) (sym w.ensures) in
+    let n = c.in-Some.known.entries in
+    let f = c.in-Some.known.form in
+    let whole : known_in s ≡ known f n =
+    sym c.either_form.ensures ∙ c.in-Some.is in
     let all : length o ≤ length o = omega arith in
     let q2 = placed-before o p1.new.out p2.new.out p2.result p1.result (length o) (field n newline)
     (lines_in f s) all p1.ensures.placed p2.ensures.placed in

@@ -10,11 +10,9 @@ returns c =
     let p2 = c.put_field-request in
     let p3 = c.put_field-length in
     let p4 = c.put_field in
-    let w1 = c.wide in
-    let w2 = c.wide-2 in
-    let w3 = c.wide2 in record {
+    record {
       placed = line-placed a.out.now p1.new.out p2.new.out p3.new.out p4.new.out p1.result p2.result p3.result p4.result
-          a.end a.place a.e.length a.e.request a.e.count w1.result w2.result w3.result c.requires.end_in_bounds
-          w1.ensures.value w2.ensures.value w3.ensures p1.ensures.placed p2.ensures.placed p3.ensures.placed p4.ensures.placed;
+          a.end a.place a.e.length a.e.request a.e.count _ _ _ c.requires.end_in_bounds c.from.ensures c.from-2.ensures c.from-3.ensures
+          p1.ensures.placed p2.ensures.placed p3.ensures.placed p4.ensures.placed;
       end_bound = omega (arith, p1.ensures.end_bound, p2.ensures.end_bound, p3.ensures.end_bound, p4.ensures.end_bound);
     }

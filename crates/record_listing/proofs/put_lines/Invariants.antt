@@ -9,6 +9,3 @@ abbrev pub invariant-loop-left : goal.invariant-loop-left
 invariant-loop-left l =
     Lining l.form l.bytes l.initial.out l.out l.end l.left l.at l.n × (length l.out ≡ length l.initial.out)
     × (l.end ≤ length l.bytes) × (l.left ≤ l.n)
-
-abbrev pub decreases-loop-left : goal.decreases-loop-left
-decreases-loop-left l = l.left

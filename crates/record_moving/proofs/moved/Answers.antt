@@ -1,63 +1,57 @@
 -- `record_moving::moved` meets its contract: the length is that of the moved record, and its end and its entries are put. Assumes nothing.
-use mathlib.Core.Path.{◌≡◌, sym, ap, ◌∙◌, subst}
+use mathlib.Core.Path.{◌≡◌, sym, ap, ◌∙◌}
 use mathlib.Core.List.{List}
 use Prim.Native.Nat.{ℕ, ◌-◌}
 use native.Mathlib.Omega.{arith}
 use lib.ListN.{length}
-use Rattle.record_bytes.specs.Layout.{end_bytes}
+use Rattle.std.proofs.lemmas.Result.{err_from_is_err_and}
 use Rattle.record_bytes.specs.Steps.{Whole, put}
-use Rattle.record_answers.specs.Answers.{accepted}
+use Rattle.record_bytes.specs.Answers.{accepted}
 use Rattle.record_moving.specs.Moving.{moved_entries}
 use Rattle.record_bytes.proofs.Inverse.{length-end}
 use Rattle.record_bytes.proofs.Walking.{whole-read, none_read}
 use Rattle.record_bytes.proofs.Putting.{length-put}
-use Rattle.record_moving.proofs.Carrying.{move-none, move-short, move-long, Sized, beside-frames, sized, move-made}
+use Rattle.record.proofs.Answered.{none_given, some_given}
+use Rattle.record_moving.proofs.Carrying.{move-none, move_full, Sized, beside-frames, sized, move-made}
 use Rattle.record_moving.proofs.moved.Goals as goal
 use Rattle.record_moving.proofs.moved.Goals.{After-length_in-used}
 
-pub returns-in_default : goal.returns-in_default
-returns-in_default c =
+pub returns-in_err-walked : goal.returns-in_err-walked
+returns-in_err-walked c =
     let a = c.args in
-    let u = move-none a.from a.to a.bytes.now a.out.now
-    (none_read a.from a.bytes.now 0 (sym c.walk-walked.ensures ∙ c.in_default.is)) in
-    record { result_value = u.0; out_after = u.1 }
+    let p = err_from_is_err_and c.from_residual.result c.from_residual.ensures.1 in
+    let g = none_given c.walk.result _ _ c.in_err-walked.ensures.value in
+    let u = move-none a.from a.to a.bytes.now a.out.now (none_read a.from a.bytes.now 0 (sym c.walk.ensures ∙ g.0)) in
+    rw (p.1, p.2, g.1) record { result_value = u.0; out_after = u.1 }
 
 pub length_in-used-requires : goal.length_in-used-requires
 length_in-used-requires c =
     let a = c.args in
-    let whole : Whole a.from a.bytes.now c.wide4.result =
-    subst (Whole a.from a.bytes.now) (sym c.wide4.ensures)
-    (whole-read a.from a.bytes.now 0 c.in-Whole.n c.in-Whole.field-1 (sym c.walk-walked.ensures ∙ c.in-Whole.is)) in
-    let b = beside-frames a.from a.to a.bytes.now a.out.now c.wide4.result whole (λ i. omega (arith, c.type_inv.bytes i)) in
+    let w = c.in_ok-walked.walked in
+    let whole = whole-read a.from a.bytes.now 0 w.entries w.end (sym c.walk.ensures ∙ some_given _ _ _ c.in_ok-walked.ensures.value) in
+    let b = beside-frames a.from a.to a.bytes.now a.out.now w.entries whole (λ i. omega (arith, c.type_inv.bytes i)) in
     record { from_bound = b.0; used_bound = b.1; n_bound = b.2 }
 
 -- the bytes are a record
-whole : (c : goal.After-length_in-used) → Whole c.args.from c.args.bytes.now c.wide4.result
+whole : (c : After-length_in-used) → Whole c.args.from c.args.bytes.now c.in_ok-walked.walked.entries
 whole c =
-    let a = c.args in
-    subst (Whole a.from a.bytes.now) (sym c.wide4.ensures)
-    (whole-read a.from a.bytes.now 0 c.in-Whole.n c.in-Whole.field-1 (sym c.walk-walked.ensures ∙ c.in-Whole.is))
+    let w = c.in_ok-walked.walked in
+    whole-read c.args.from c.args.bytes.now 0 w.entries w.end (sym c.walk.ensures ∙ some_given _ _ _ c.in_ok-walked.ensures.value)
 
 -- the length is that of the moved record
-long : (c : goal.After-length_in-used)
-    → Sized c.args.from c.args.to c.args.bytes.now c.args.out.now c.wide4.result (whole c) c.length_in-used.result
+long : (c : After-length_in-used)
+    → Sized c.args.from c.args.to c.args.bytes.now c.args.out.now c.in_ok-walked.walked.entries (whole c) c.length_in-used.result
 long c =
     let a = c.args in
-    sized a.from a.to a.bytes.now a.out.now c.wide4.result (whole c) (λ i. omega (arith, c.type_inv.bytes i))
+    sized a.from a.to a.bytes.now a.out.now c.in_ok-walked.walked.entries (whole c) (λ i. omega (arith, c.type_inv.bytes i))
     c.length_in-used.result c.length_in-used.ensures
 
 pub returns-then-out-used : goal.returns-then-out-used
 returns-then-out-used c =
     let k = (goal.at.returns-then-out-used c).After-length_in-used in
     let a = c.args in
-    let u = move-short a.from a.to a.bytes.now a.out.now c.wide4.result (whole k) (omega (arith, c.if-out-used.true, (long k).long)) in
-    record { result_value = u.0; out_after = u.1 }
-
-pub returns-then-used-gt65536 : goal.returns-then-used-gt65536
-returns-then-used-gt65536 c =
-    let k = (goal.at.returns-then-used-gt65536 c).After-length_in-used in
-    let a = c.args in
-    let u = move-long a.from a.to a.bytes.now a.out.now c.wide4.result (whole k) (omega (arith, c.if-used-gt65536.true, (long k).long)) in
+    let full = rw (long k).long at c.then-out-used.either in
+    let u = move_full a.from a.to a.bytes.now a.out.now c.in_ok-walked.walked.entries (whole k) full in
     record { result_value = u.0; out_after = u.1 }
 
 pub overflow_sub-at : goal.overflow_sub-at
@@ -74,13 +68,9 @@ put_entries-requires c =
     let front = (long k).front in
     let size = c.end.ensures in
     let room = c.if-out-used.false in
-    let m = length-end a.to c.in-Whole.n in
+    let m = length-end a.to c.in_ok-walked.walked.entries in
     let l : length c.put_end.new.out ≡ length a.out.now = ap length c.put_end.ensures ∙ length-put a.out.now _ _ (omega arith) in
-    record {
-      whole = subst (Whole a.from a.bytes.now) (c.wide4.ensures ∙ sym c.wide4-2.ensures) (whole k);
-      end_value = omega arith;
-      end_in_bounds = omega arith;
-    }
+    record { whole = whole k; end_value = omega arith; end_in_bounds = omega arith }
 
 pub returns : goal.returns
 returns c =
@@ -89,13 +79,11 @@ returns c =
     let f = a.to in
     let at = c.length_in-used.result - c.end.result in
     let z = long k in
-    let n = c.wide4 in
     let size = c.end.ensures in
     let front = z.front in
-    let m = move-made a.from f a.bytes.now a.out.now n.result (whole k) at
+    let m = move-made a.from f a.bytes.now a.out.now c.in_ok-walked.walked.entries (whole k) at
     (omega (arith, c.if-out-used.false, z.long)) (omega (arith, c.if-used-gt65536.false, z.long)) (omega (arith, z.long)) in
     record {
       result_value = ap accepted z.long ∙ m.0;
-      out_after = c.put_entries.ensures ∙ ap (λ (l : List ℕ). put l 0 (moved_entries a.from f a.bytes.now))
-          (c.put_end.ensures ∙ ap (λ (i : ℕ). put a.out.now at (end_bytes f i)) (sym n.ensures)) ∙ m.1;
+      out_after = c.put_entries.ensures ∙ ap (λ (l : List ℕ). put l 0 (moved_entries a.from f a.bytes.now)) c.put_end.ensures ∙ m.1;
     }

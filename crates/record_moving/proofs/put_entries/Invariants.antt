@@ -7,8 +7,5 @@ use Rattle.record_moving.proofs.put_entries.Given as goal
 
 abbrev pub invariant-loop-left : goal.invariant-loop-left
 invariant-loop-left l =
-    Carrying l.from l.to l.bytes l.initial.out l.out l.n l.end l.at l.place l.left
+    Carrying l.from l.to l.bytes l.initial.out l.out l.n l.end l.at l.place l._left
     × (length l.out ≡ length l.initial.out) × (l.place ≤ length l.bytes) × (l.at ≤ l.end)
-
-abbrev pub decreases-loop-left : goal.decreases-loop-left
-decreases-loop-left l = l.left

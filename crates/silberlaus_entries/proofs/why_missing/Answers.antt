@@ -1,6 +1,6 @@
 -- `silberlaus_entries::why_missing` meets its contract. Assumes nothing.
 use mathlib.Core.Path.{ap, ◌∙◌}
-use Rattle.record_answers.specs.Answers.{EntryAnswer}
+use Rattle.record_bytes.specs.Answers.{EntryAnswer}
 use Rattle.silberlaus_entries.proofs.why_missing.Goals as goal
 
 pub returns : goal.returns

@@ -1,2 +1,0 @@
--- The numbers and values of what the session record answers.
-pub mod Answers
