@@ -1,12 +1,11 @@
 -- What reading an entry of a record answers. Assumes nothing.
-use Rattle.std.specs.Prelude.{cond, ◌&&◌, List, ℕ, ltb, eqb, length}
+use Rattle.std.specs.Prelude.{cond, ◌&&◌, List, ℕ, ltb, eqb, length, Some, None}
+use Rattle.std.specs.Prelude as std
 use Rattle.std.proofs.Math.Option.{Option, none, some}
 use Rattle.frame_settings.specs.Settings.{setting_of}
 use Rattle.frame_arithmetic.specs.Answers.{Judged, refused, judged_read}
 use Rattle.frame.specs.Frame.{frame_of}
 use Rattle.frame_settings.specs.declared.Setting.{Setting}
-use Rattle.frame_settings.specs.declared.Settled.{Settled}
-use Rattle.frame_settings.specs.declared.Settled.TheVariants as settled
 use Rattle.record_forms.specs.declared.Form.{Form}
 use Rattle.record_forms.specs.Forms.{which_form}
 use Rattle.record_bytes.specs.Layout.{RecordEntry}
@@ -19,9 +18,9 @@ judged_place r none place = refused 7 0
 judged_place r (some es) place = cond (ltb place (length es)) (judged_read (frame_of (frame_at es place) r)) (refused 1 0)
 
 -- the rate and the duration 1, the two buffers 2
-abbrev pub judged_in : Settled → Form → List ℕ → ℕ → ℕ → ℕ → Judged
-judged_in settled.Unknown f s place x b = refused 1 0
-judged_in (settled.Known r) f s place x b = cond (eqb x r.lines && eqb b r.lines) (judged_place r (read_record f s) place) (refused 2 0)
+abbrev pub judged_in : std.Option Setting → Form → List ℕ → ℕ → ℕ → ℕ → Judged
+judged_in None f s place x b = refused 1 0
+judged_in (Some r) f s place x b = cond (eqb x r.lines && eqb b r.lines) (judged_place r (read_record f s) place) (refused 2 0)
 
 -- of a form, which is a 1 before all else, a rate and a duration, a record and a place, and the lengths of the two lent buffers
 unfoldable pub judged_entry : ℕ → ℕ → ℕ → List ℕ → ℕ → ℕ → ℕ → Judged

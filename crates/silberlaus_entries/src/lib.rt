@@ -9,14 +9,14 @@ ghost use Rattle.frame_arithmetic.specs.Sound.{Bounded};
 ghost use Rattle.silberlaus_frames.specs.Frames.{frame_given};
 ghost use Rattle.silberlaus_entries.specs.Entries.{judged_entry, missing};
 
-use record_forms::{Which, which_form};
+use record_forms::Form;
 use silberlaus_frames::{SilberlausFrame, numbered, unread};
 
 // Why there is no frame at a place: 7 or 1.
 fn why_missing(form: u32, bytes: &[u8], place: usize) -> u8
     ensures { result ≡ missing form bytes.now place }
 {
-    record::entry(form, bytes, place).number()
+    refusals::numbered(record::entry(form, bytes, place))
 }
 
 // The frame of the entry at a place, a part of the record that goes on to the frame reader uncopied.
@@ -34,8 +34,7 @@ pub fn read_entry(
         spectrum.old spectrum.new residual.old residual.new }
     ensures bounded { Bounded (last_cause_of (setting_of khz duration)) (frame_given result) spectrum.new }
 {
-    let which = which_form(form);
-    let Which::Is(_) = which else {
+    let Ok(_) = Form::try_from(form) else {
         return unread(1);
     };
     let lines = frame::line_count(khz, duration);

@@ -11,7 +11,7 @@ returns-in_default c =
     let a = c.args in
     let u = refusal _ _ 1 c.unread.result _ _
     (no-form a.form a.khz a.duration a.bytes.now a.place (length a.spectrum.now) (length a.residual.now)
-    (sym c.which_form-which.ensures ∙ c.in_default.is))
+    c.in_default.field-0 (sym c.try_from.ensures ∙ c.in_default.is))
     (omega arith) (λ z. omega arith) c.unread.ensures in
     record { answers = u.0; bounded = u.1 }
 
@@ -20,7 +20,7 @@ returns-then-lines-eq0 c =
     let a = c.args in
     let l = c.line_count-lines.ensures in
     let u = refusal _ _ 1 c.unread-then-lines-eq0.result _ _
-    (no-setting a.form c.in-Is.field-0 (sym c.which_form-which.ensures ∙ c.in-Is.is) a.khz a.duration a.bytes.now a.place
+    (no-setting a.form c.in-Ok.field-0 (sym c.try_from.ensures ∙ c.in-Ok.is) a.khz a.duration a.bytes.now a.place
     (length a.spectrum.now) (length a.residual.now)
     (omega (arith, l, c.if-lines-eq0.true)))
     (omega arith) (λ z. omega arith) c.unread-then-lines-eq0.ensures in
@@ -31,7 +31,7 @@ returns-then-spectrum-lines c =
     let a = c.args in
     let l = c.line_count-lines.ensures in
     let u = refusal _ _ 2 c.unread-then-spectrum-lines.result _ _
-    (other-spectrum a.form c.in-Is.field-0 (sym c.which_form-which.ensures ∙ c.in-Is.is) a.khz a.duration a.bytes.now a.place
+    (other-spectrum a.form c.in-Ok.field-0 (sym c.try_from.ensures ∙ c.in-Ok.is) a.khz a.duration a.bytes.now a.place
     (length a.spectrum.now) (length a.residual.now)
     (λ z. omega (arith, l, z, c.if-lines-eq0.false)) (λ z. omega (arith, l, z, c.if-spectrum-lines.true)))
     (omega arith) (λ z. omega arith) c.unread-then-spectrum-lines.ensures in
@@ -42,7 +42,7 @@ returns-then-residual-lines c =
     let a = c.args in
     let l = c.line_count-lines.ensures in
     let u = refusal _ _ 2 c.unread-then-residual-lines.result _ _
-    (other-residual a.form c.in-Is.field-0 (sym c.which_form-which.ensures ∙ c.in-Is.is) a.khz a.duration a.bytes.now a.place
+    (other-residual a.form c.in-Ok.field-0 (sym c.try_from.ensures ∙ c.in-Ok.is) a.khz a.duration a.bytes.now a.place
     (length a.spectrum.now) (length a.residual.now)
     (λ z. omega (arith, l, z, c.if-lines-eq0.false)) (λ z. omega (arith, l, z, c.if-residual-lines.true)))
     (omega arith) (λ z. omega arith) c.unread-then-residual-lines.ensures in
@@ -52,7 +52,7 @@ pub returns-then-part-eq0 : goal.returns-then-part-eq0
 returns-then-part-eq0 c =
     let a = c.args in
     let l = c.line_count-lines.ensures in
-    let n = no-frame a.form c.in-Is.field-0 (sym c.which_form-which.ensures ∙ c.in-Is.is) a.khz a.duration a.bytes.now a.place
+    let n = no-frame a.form c.in-Ok.field-0 (sym c.try_from.ensures ∙ c.in-Ok.is) a.khz a.duration a.bytes.now a.place
     (length a.spectrum.now) (length a.residual.now) (λ i. omega (arith, c.type_inv.bytes i))
     (λ z. omega (arith, l, z, c.if-lines-eq0.false)) (omega (arith, l, c.if-spectrum-lines.false))
     (omega (arith, l, c.if-residual-lines.false))
@@ -66,7 +66,7 @@ returns c =
     let a = c.args in
     let l = c.line_count-lines.ensures in
     let r = c.read in
-    let p = part-read a.form c.in-Is.field-0 (sym c.which_form-which.ensures ∙ c.in-Is.is) a.khz a.duration a.bytes.now a.place
+    let p = part-read a.form c.in-Ok.field-0 (sym c.try_from.ensures ∙ c.in-Ok.is) a.khz a.duration a.bytes.now a.place
     (length a.spectrum.now) (length a.residual.now) (λ i. omega (arith, c.type_inv.bytes i))
     (λ z. omega (arith, l, z, c.if-lines-eq0.false)) (omega (arith, l, c.if-spectrum-lines.false))
     (omega (arith, l, c.if-residual-lines.false))
