@@ -4,8 +4,7 @@
 
 ghost use Rattle.std.specs.Prelude.{◌≤◌};
 
-use frame::Answer;
-use writer::Written;
+use refusals::Refusal;
 
 // The lines of a frame at a rate and a duration.
 pub fn lines_at(khz: u32, duration: u32) -> usize
@@ -14,25 +13,14 @@ pub fn lines_at(khz: u32, duration: u32) -> usize
     frame::line_count(khz, duration)
 }
 
-// Puts a frame as it is at the start of a room, as far as there is room.
-fn copy(frame: &[u8], room: &mut [u8]) {
-    let mut i: usize = 0;
-    while i < frame.len() {
-        if room.len() <= i {
-            return;
-        }
-        room[i] = frame[i];
-        i = i + 1;
-    }
-}
-
 // Puts the frame that is sent into a room of its length, and answers whether it was written anew. What cannot be read, or written from what
 // was read (LSB mode 1, or fewer residual bits than lines that are not 0), is sent as it is.
 pub fn write_anew(khz: u32, duration: u32, frame: &[u8], room: &mut [u8]) -> bool {
     let n = lines_at(khz, duration);
     let mut spectrum = [0i32; 400];
     let mut residual = [0u8; 400];
-    copy(frame, room);
+    let shared = frame.len().min(room.len());
+    room[..shared].copy_from_slice(&frame[..shared]);
     write_by(
         khz,
         duration,
@@ -41,9 +29,10 @@ pub fn write_anew(khz: u32, duration: u32, frame: &[u8], room: &mut [u8]) -> boo
         &mut residual[..n],
         room,
     )
+    .is_ok()
 }
 
-// Writes a frame anew by way of lent lines and residual bits, and answers whether it was written; where not, the room is as lent.
+// Writes a frame anew by way of lent lines and residual bits; where it is refused, the room is as lent.
 fn write_by(
     khz: u32,
     duration: u32,
@@ -51,19 +40,16 @@ fn write_by(
     spectrum: &mut [i32],
     residual: &mut [u8],
     room: &mut [u8],
-) -> bool {
-    let reading = frame::read(khz, duration, frame, spectrum, residual);
-    let answer = reading.answer;
-    let Answer::Read(fields) = answer else {
-        return false;
-    };
-    let first = reading.tns_coefficients_0;
-    let second = reading.tns_coefficients_1;
-    let written = writer::write(
-        khz, duration, fields, first, second, spectrum, residual, room,
-    );
-    match written {
-        Written::Sent(_) => true,
-        _ => false,
-    }
+) -> Result<u16, Refusal> {
+    let reading = frame::read(khz, duration, frame, spectrum, residual)?;
+    writer::write(
+        khz,
+        duration,
+        reading.fields,
+        reading.tns_coefficients_0,
+        reading.tns_coefficients_1,
+        spectrum,
+        residual,
+        room,
+    )
 }
