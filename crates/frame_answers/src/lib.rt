@@ -6,7 +6,7 @@
 use frame_side::Side;
 
 // What an accepted frame says beside its TNS coefficients, spectrum and residual bits.
-#[derive(Clone, Copy)]
+#[derive(Clone, Copy, Default)]
 pub struct Fields {
     pub side: Side,
     pub tns_order_0: u8,
@@ -16,7 +16,7 @@ pub struct Fields {
 }
 
 // The fields, and beside them each filter's coefficients: 0 from its order on.
-#[derive(Clone, Copy)]
+#[derive(Clone, Copy, Default)]
 pub struct Reading {
     pub fields: Fields,
     pub tns_coefficients_0: [u8; 8],

@@ -14,7 +14,7 @@ use frame_bits::{Step, read_bits};
 use refusals::Cause;
 
 // Document 01's shape: the first and the second five bits, the mode bit, the gain, the sign bit and the joint index.
-#[derive(Clone, Copy)]
+#[derive(Clone, Copy, Default)]
 pub struct Shape {
     pub low: u8,
     pub high: u8,

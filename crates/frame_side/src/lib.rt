@@ -16,7 +16,7 @@ pub use frame_shape::Shape;
 use frame_shape::read_shape;
 use refusals::Cause;
 
-#[derive(Clone, Copy)]
+#[derive(Clone, Copy, Default)]
 pub struct Head {
     pub bandwidth: u8,
     pub last_line: u16,
@@ -24,14 +24,14 @@ pub struct Head {
     pub gain: u8,
 }
 
-#[derive(Clone, Copy)]
+#[derive(Clone, Copy, Default)]
 pub struct Flags {
     pub tns_0: u8,
     pub tns_1: u8,
     pub pitch_present: u8,
 }
 
-#[derive(Clone, Copy)]
+#[derive(Clone, Copy, Default)]
 pub struct Tail {
     pub filter_flag: u8,
     pub pitch_index: u16,
@@ -39,7 +39,7 @@ pub struct Tail {
 }
 
 // The side information; a field that is not sent is 0.
-#[derive(Clone, Copy)]
+#[derive(Clone, Copy, Default)]
 pub struct Side {
     pub head: Head,
     pub flags: Flags,

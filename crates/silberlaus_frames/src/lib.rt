@@ -5,12 +5,12 @@
 ghost use Rattle.std.specs.Prelude.{◌≡◌, length};
 ghost use Rattle.frame_settings.specs.Settings.{last_cause_of, setting_of};
 ghost use Rattle.frame.specs.Frame.{judged_of};
-ghost use Rattle.frame_answers.specs.Answers.{no_fields, refused_with, told};
+ghost use Rattle.frame_answers.specs.Answers.{refused_with, told};
 ghost use Rattle.frame_arithmetic.specs.Answers.{Answers};
 ghost use Rattle.frame_arithmetic.specs.Sound.{Bounded};
 ghost use Rattle.silberlaus_frames.specs.Frames.{given, frame_given};
 
-use frame::{Fields, Flags, Head, Reading, Refusal, Shape, Side, Tail};
+use frame::{Reading, Refusal};
 
 // C's silberlaus_frame.
 #[repr(C)]
@@ -42,52 +42,17 @@ pub struct SilberlausFrame {
     pub shape_joint: u32,
 }
 
-// The fields of a refusal: all 0.
-fn no_fields() -> Fields
-    ensures { result ≡ no_fields }
+// The C struct of a number, a cause and what was read.
+fn flattened(number: u8, cause: u8, r: Reading) -> SilberlausFrame
+    ensures { frame_given result ≡ given number cause r.fields r.tns_coefficients_0 r.tns_coefficients_1 }
 {
-    Fields {
-        side: Side {
-            head: Head {
-                bandwidth: 0,
-                last_line: 0,
-                lsb_mode: 0,
-                gain: 0,
-            },
-            flags: Flags {
-                tns_0: 0,
-                tns_1: 0,
-                pitch_present: 0,
-            },
-            shape: Shape {
-                low: 0,
-                high: 0,
-                mode: 0,
-                gain: 0,
-                sign: 0,
-                joint: 0,
-            },
-            tail: Tail {
-                filter_flag: 0,
-                pitch_index: 0,
-                noise_level: 0,
-            },
-        },
-        tns_order_0: 0,
-        tns_order_1: 0,
-        residual_bits: 0,
-        symbols: 0,
-    }
-}
-
-// The C struct of a number, a cause and the fields.
-fn flattened(number: u8, cause: u8, f: Fields, first: [u8; 8], second: [u8; 8]) -> SilberlausFrame
-    ensures { frame_given result ≡ given number cause f first second }
-{
+    let f = r.fields;
     let h = f.side.head;
     let g = f.side.flags;
     let q = f.side.shape;
     let t = f.side.tail;
+    let tns_coefficients_0 = r.tns_coefficients_0;
+    let tns_coefficients_1 = r.tns_coefficients_1;
     SilberlausFrame {
         number,
         cause,
@@ -106,8 +71,8 @@ fn flattened(number: u8, cause: u8, f: Fields, first: [u8; 8], second: [u8; 8]) 
         noise_level: t.noise_level,
         tns_order_0: f.tns_order_0,
         tns_order_1: f.tns_order_1,
-        tns_coefficients_0: first,
-        tns_coefficients_1: second,
+        tns_coefficients_0,
+        tns_coefficients_1,
         last_line: h.last_line,
         pitch_index: t.pitch_index,
         residual_bits: f.residual_bits,
@@ -116,11 +81,11 @@ fn flattened(number: u8, cause: u8, f: Fields, first: [u8; 8], second: [u8; 8]) 
     }
 }
 
-// A refusal that no frame was read for.
+// A refusal that no frame was read for: zero in every other field.
 pub fn unread(number: u8) -> SilberlausFrame
     ensures { frame_given result ≡ refused_with number 0 }
 {
-    flattened(number, 0, no_fields(), [0; 8], [0; 8])
+    flattened(number, 0, Reading::default())
 }
 
 // The answer of the frame reader, by document 01's numbers.
@@ -128,8 +93,8 @@ pub fn numbered(answer: Result<Reading, Refusal>) -> SilberlausFrame
     ensures { frame_given result ≡ told answer }
 {
     match answer {
-        Ok(r) => flattened(0, 0, r.fields, r.tns_coefficients_0, r.tns_coefficients_1),
-        Err(why) => flattened(why.number(), why.cause(), no_fields(), [0; 8], [0; 8]),
+        Ok(r) => flattened(0, 0, r),
+        Err(why) => flattened(why.number(), why.cause(), Reading::default()),
     }
 }
 
