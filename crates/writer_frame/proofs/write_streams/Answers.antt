@@ -1,8 +1,5 @@
 -- `writer_frame::write_streams` meets its contract. The side information, both filters, and the pairs. Assumes nothing.
-use mathlib.Core.Path.{sym, ap, ◌∙◌}
 use native.Mathlib.Omega.{arith}
-use lib.ListN.{length}
-use Rattle.coder_tables.proofs.Rules.{spectrum-length, order-length, coefficient-length}
 use Rattle.writer_laws.specs.Writing.{Given, given}
 use Rattle.writer_frame.proofs.Asked.{asked}
 use Rattle.writer_frame.proofs.Streaming.{tns-tables, pair-tables, start-counts, filtered-is, sends-filtered, streams-are}
@@ -36,14 +33,6 @@ write_filter-c1-requires c =
       taken_bound = omega arith;
     }
 
-pub slice_bounds-write_filter-end-3 : goal.slice_bounds-write_filter-end-3
-slice_bounds-write_filter-end-3 c =
-    sym (ap length c.tns_order-orders.ensures ∙ order-length)
-
-pub slice_bounds-write_filter-end-4 : goal.slice_bounds-write_filter-end-4
-slice_bounds-write_filter-end-4 c =
-    sym (ap length c.tns_coefficients-rows.ensures ∙ coefficient-length)
-
 pub write_filter-c2-requires : goal.write_filter-c2-requires
 write_filter-c2-requires c =
     let a = asked c.requires.writable in
@@ -64,20 +53,6 @@ write_filter-c2-requires c =
       at_bound = omega arith;
       taken_bound = omega arith;
     }
-
-pub rate_offset-requires : goal.rate_offset-requires
-rate_offset-requires c = record {
-  index_bound = c.requires.writable.known.index;
-  bytes_bound = c.requires.writable.most;
-}
-
-pub slice_bounds-write_pairs-end : goal.slice_bounds-write_pairs-end
-slice_bounds-write_pairs-end c =
-    sym (pair-tables _ _ c.lookup-look.ensures c.spectrum-cum.ensures).looks
-
-pub slice_bounds-write_pairs-end-2 : goal.slice_bounds-write_pairs-end-2
-slice_bounds-write_pairs-end-2 c =
-    sym (ap length c.spectrum-cum.ensures ∙ spectrum-length)
 
 pub write_pairs-requires : goal.write_pairs-requires
 write_pairs-requires c =
