@@ -122,6 +122,8 @@ fn push_four(by: &Polynomial, four: &[u8; 4], r: u32) -> u32
 }
 
 // The hash of a row of semi-octets, by fours; those of the highest powers that make no four come first.
+// In line, the degree is known, and each shift is by a constant.
+#[inline(always)]
 fn hash_by_fours(by: &Polynomial, s: &[u8]) -> u32
     requires { Stepped by.now.bits by.now.degree by.now.steps }
     ensures value { result ≡ hash by.now.bits by.now.degree (bits_of s.now) }
