@@ -40,6 +40,7 @@ use Rattle.record_listing.specs.Listing.{
   too_long,
   listing_of,
   listing,
+  listed_answer,
   list_answer,
   list_buffer,
 }
@@ -239,3 +240,11 @@ most-of a b r false q = let z : ◌≡◌ {A = ℕ} 0 6 = ap (λ (x : Answer). x
 pub listed-most : (s out : List ℕ) (r : ℕ) → accepted r ≡ list_answer s out → r ≤ length out
 unfolding list_answer
 listed-most s out r q = most-of (length out) (length (listing s)) r (leb most (length out)) q
+
+-- a buffer that is not too short gets a listing
+pub listed-there : (s out : List ℕ) (o : std.Option ℕ) → 65536 ≤ length out → listed_answer o ≡ list_answer s out → IsSome o
+unfolding list_answer
+listed-there s out (Some r) h q = refl
+listed-there s out None h q =
+    let e : refused 6 ≡ accepted (length out - length (listing s)) = q ∙ simp (le-leb 65536 (length out) h) in
+    let z : ◌≡◌ {A = ℕ} 6 0 = ap (λ (x : Answer). x.number) e in absurd (omega arith)
