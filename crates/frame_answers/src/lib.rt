@@ -1,4 +1,4 @@
-// What an accepted frame says beside its spectrum and residual bits; with specs/Answers.antt, document 01's number and cause of each answer.
+// What an accepted frame says beside its spectrum and residual bits; specs/Answers.antt has document 01's number and cause of each answer.
 // Inner: `frame_arithmetic`, `frame` and the crates of `writer` stand over it, and `frame` hands the answers on to callers. It asks
 // nothing.
 #![tactic(auto)]

@@ -1,6 +1,7 @@
 -- Residual data (5.4.2.8): the bits left, the residual bits of LSB mode 0, a line's late low bits of LSB mode 1.
 -- Assumes nothing.
-use Rattle.std.specs.Prelude.{Bool, Option, Some, None, Result, Ok, Err, cond, List, ℕ, zero, suc, ◌+◌, ◌-◌, ◌*◌, ◌^◌, ltb, leb, eqb, get_or, set, ℤ, pos, negsuc}
+use Rattle.std.specs.Prelude.{Option, Some, None, Result, Ok, Err}
+use Rattle.std.specs.Prelude.{Bool, cond, List, ℕ, zero, suc, ◌+◌, ◌-◌, ◌*◌, ◌^◌, ltb, leb, eqb, get_or, set, ℤ, pos, negsuc}
 use Rattle.frame_bits.specs.Read.{Read, value, cause}
 use Rattle.frame_bits.specs.Bits.{bit_of}
 use Rattle.frame_coder.specs.declared.Coder.{Coder}
