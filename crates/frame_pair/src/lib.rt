@@ -161,10 +161,12 @@ pub fn next_context(c: usize, v: usize, level: usize) -> usize
     ensures upper_bound { result < 256 }
 {
     let l = level.min(3);
-    if l <= 1 {
-        return c % 16 * 16 + (1 + (v % 4 + v / 4) * (l + 1));
-    }
-    c % 16 * 16 + (12 + l)
+    let next = if l <= 1 {
+        1 + (v % 4 + v / 4) * (l + 1)
+    } else {
+        12 + l
+    };
+    c % 16 * 16 + next
 }
 
 // One pair of lines: escapes, the last symbol, low bits and signs.

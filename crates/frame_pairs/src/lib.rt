@@ -25,11 +25,8 @@ pub fn base_of(context: usize, offset: usize, half: usize, k: usize) -> usize
     ensures value { result ≡ base_of context offset half k }
     ensures upper_bound { result < 1024 }
 {
-    if half < k {
-        context + offset + 256
-    } else {
-        context + offset
-    }
+    let past = if half < k { 256 } else { 0 };
+    context + offset + past
 }
 
 // A line from its magnitude and its sign bit.
