@@ -38,7 +38,8 @@ word_fits size mode slot r i l =
     let h = length_high size i r.size_from in
     omega arith
 
-pub word-semi-octets : (size mode : ℕ) (slot : List ℕ) → InRange size mode → (i : ℕ) → i < words size → SemiOctets (word_in size mode slot i)
+pub word-semi-octets : (size mode : ℕ) (slot : List ℕ) → InRange size mode → (i : ℕ) → i < words size
+    → SemiOctets (word_in size mode slot i)
 word-semi-octets size mode slot r i l = semi-octets-of (word_in size mode slot i) ((words-in size mode slot r).below i l)
 
 pub corrected-only : (size mode : ℕ) (slot c e : List ℕ) → InRange size mode → Corrected size mode slot c → Corrected size mode slot e

@@ -70,7 +70,8 @@ place-back size p l = omega (arith, div-add-mod (2 * size - 1 - p) (words size))
 module _ (size : ℕ) (g : ℕ → ℕ → ℕ) (from : 40 ≤ size) (small : (i k : ℕ) → g i k < 16) where
   pub slot_lt : (w : ℕ → List ℕ) → AllWords size w → (p : ℕ) → p < 2 * size
       → sum (get_or (w (word_of size p)) (number_in size p) 0) (g (word_of size p) (number_in size p)) < 16
-  slot_lt w a p l = sum_lt _ _ (a.below (word_of size p) (word_lt size p from) (number_in size p)) (small (word_of size p) (number_in size p))
+  slot_lt w a p l =
+      sum_lt _ _ (a.below (word_of size p) (word_lt size p from) (number_in size p)) (small (word_of size p) (number_in size p))
 
   pub bytes-slot : (w : ℕ → List ℕ) → AllWords size w → Bytes size (slot_from size g w)
   unfolding slot_from
@@ -83,7 +84,8 @@ module _ (size : ℕ) (g : ℕ → ℕ → ℕ) (from : 40 ≤ size) (small : (i
       tab-is _ (word_length size i) (w i) (a.long i l)
       (λ k m.
       ap (λ (x : ℕ). sum x (g i k))
-      (semi-pack (λ p. sum (get_or (w (word_of size p)) (number_in size p) 0) (g (word_of size p) (number_in size p))) size (place_of size i k)
+      (semi-pack (λ p. sum (get_or (w (word_of size p)) (number_in size p) 0) (g (word_of size p) (number_in size p))) size
+      (place_of size i k)
       (slot_lt w a) (place-lt size i k from l m)
       ∙ ap₂ (λ (x y : ℕ). sum (get_or (w x) y 0) (g x y)) (place-word size i k from l m) (place-number size i k from l m))
       ∙ sum-undone (get_or (w i) k 0) (g i k))
@@ -166,7 +168,8 @@ module _ (m : ℕ → ℕ → ℕ) (shifted : Shifted m) (size : ℕ) (g : ℕ �
       ∙ total-same _ _ (word_length size i) (λ k l. shifted (semi s (place_of size i k)) (semi r (place_of size i k)) (g i k))
 
   -- the changes of a slot are those of its words
-  pub changes-words : 40 ≤ size → slot_changes m size s r ≡ total (λ i. changes_by m (received size g s i) (received size g r i)) (words size)
+  pub changes-words : 40 ≤ size
+      → slot_changes m size s r ≡ total (λ i. changes_by m (received size g s i) (received size g r i)) (words size)
   unfolding slot_changes
   changes-words h =
       total-turned (changed m s r) (2 * size)

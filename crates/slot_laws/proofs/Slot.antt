@@ -138,7 +138,8 @@ abbrev pub AllValid : ℕ → ℕ → List ℕ → Type 0
 AllValid size mode slot = (i : ℕ) → i < words size → Valid (distance mode) (word_in size mode slot i)
 
 -- a valid word is the code word over its own data
-word_back : (size mode : ℕ) (slot : List ℕ) → InRange size mode → (i : ℕ) → i < words size → Valid (distance mode) (word_in size mode slot i)
+word_back : (size mode : ℕ) (slot : List ℕ) → InRange size mode → (i : ℕ) → i < words size
+    → Valid (distance mode) (word_in size mode slot i)
     → coded (distance mode) (drop (distance mode - 1) (word_in size mode slot i)) ≡ word_in size mode slot i
 word_back size mode slot r i l v =
     let w = word_in size mode slot i in
@@ -189,7 +190,8 @@ frame_from size mode slot = frame_of size mode (gathered size mode slot)
 unfoldable pub HashesMatch : ℕ → ℕ → List ℕ → Type 0
 HashesMatch size mode slot = Matches size mode (request_swapped size mode (gathered size mode slot))
 
-pub sent-from : (size mode : ℕ) (slot : List ℕ) → InRange size mode → Sent size mode (request_from size mode slot) (frame_from size mode slot)
+pub sent-from : (size mode : ℕ) (slot : List ℕ) → InRange size mode
+    → Sent size mode (request_from size mode slot) (frame_from size mode slot)
 unfolding request_from frame_from
 sent-from size mode slot r = sent-of size mode (gathered size mode slot) (data-gathered size mode slot r)
 

@@ -1,7 +1,8 @@
 -- The data of a slot in order (A.16 to A.37): the frame's semi-octets from the last byte back, both hashes and the request in front of
 -- them, and the swap. Semi-octets are numbers below 16; four bits of the annex, the lowest first, are one of them.
 -- Assumes nothing.
-use Rattle.std.specs.Prelude.{cond, ◌≡◌, List, [], ◌∷◌, ◌++◌, ℕ, zero, suc, ◌+◌, ◌-◌, ◌*◌, ◌/◌, ◌%◌, ◌^◌, eqb, length, take, drop, get_or, set}
+use Rattle.std.specs.Prelude.{cond, ◌≡◌, List, [], ◌∷◌, ◌++◌, ℕ, zero, suc, ◌+◌, ◌-◌, ◌*◌, ◌/◌, ◌%◌, ◌^◌}
+use Rattle.std.specs.Prelude.{eqb, length, take, drop, get_or, set}
 use Rattle.laws.specs.Tab.{tab, Below}
 use Rattle.code_word_laws.specs.Word.{distance}
 use Rattle.slot_laws.specs.Sizes.{word_length, conceal, hash1, hash2, frame_size, data_size}
@@ -36,7 +37,8 @@ semis (suc n) v = v % 16 ∷ semis n (v / 16)
 -- first hash, request, second hash (A.26 to A.29)
 unfoldable pub heading : ℕ → ℕ → ℕ → List ℕ → List ℕ
 heading size mode q a =
-    semis (2 * hash1 size) (first_hash size mode q a + q * 2 ^ (8 * hash1 size - 2)) ++ semis (2 * hash2 size mode) (second_hash size mode a)
+    semis (2 * hash1 size) (first_hash size mode q a + q * 2 ^ (8 * hash1 size - 2))
+    ++ semis (2 * hash2 size mode) (second_hash size mode a)
 
 -- .. and the frame's semi-octets behind them (A.30, A.31)
 unfoldable pub ordered : ℕ → ℕ → ℕ → List ℕ → List ℕ
