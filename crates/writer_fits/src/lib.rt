@@ -1,15 +1,15 @@
 // What can be written (request 02 §5): the fields in their ranges, lines and residual bits that go with them. Each function equals its
 // definition in specs/Fits.antt of `writer_laws`.
-// Inner: `writer` stands over it. It asks for a known setting.
+// Inner: `writer` stands over it. It asks for a known setting, and for at most 400 lines.
 #![tactic(auto)]
 
-ghost use Rattle.std.specs.Prelude.{◌≡◌, ◌^◌, ◌≤◌, ◌<◌, ltb};
+ghost use Rattle.std.specs.Prelude.{◌≡◌, cond, ◌-◌, ◌^◌, ◌≤◌, ◌<◌, ltb, length};
 ghost use Rattle.frame_bits.specs.Fields.{list_fits};
 ghost use Rattle.frame_settings.specs.Settings.{Known};
 ghost use Rattle.frame_shape.specs.Shape.{shape_fields};
 ghost use Rattle.frame_side.specs.Side.{head_fields, flags_fields, tail_fields};
 ghost use Rattle.writer_laws.specs.SideBits.{head_values, flags_values, shape_values, tail_values};
-ghost use Rattle.writer_laws.specs.Fits.{entries_fit, magnitudes_fit, non_zero};
+ghost use Rattle.writer_laws.specs.Fits.{entries_fit, magnitudes_from, magnitudes_fit, non_zero_from, non_zero};
 ghost use Rattle.writer_laws.specs.Fits.{filter_fits, side_fits, fields_fit, lines_fit};
 
 use frame_answers::Fields;
@@ -99,7 +99,7 @@ fn side_fits(r: Setting, v: Side) -> bool
 fn entries_fit(l: &[u8], most: u8, n: usize) -> bool
     ensures { result ≡ entries_fit most n l.now }
 {
-    // a loop: `all`, which stops at the first entry that is too large, takes three times as long
+    // a loop: see `look_from`
     let mut fit = true;
     for (k, x) in l.iter().enumerate() {
         let limit = if k < n { most } else { 0 };
@@ -133,33 +133,58 @@ pub fn fields_fit(r: Setting, f: Fields, first: &[u8], second: &[u8]) -> bool
         && filter_fits(q, flags.tns_1, f.tns_order_1, second)
 }
 
-// Whether the lines below the last one are at most 32,767 in magnitude, and the others 0.
-fn magnitudes_fit(lines: &[i32], last: usize) -> bool
-    ensures { result ≡ magnitudes_fit 32767 last lines.now }
-{
-    // a loop: see `entries_fit`
-    let mut fit = true;
-    for (k, x) in lines.iter().enumerate() {
-        let limit = if k < last { 32767 } else { 0 };
-        fit = fit & (x.unsigned_abs() <= limit);
-    }
-    fit
+// Whether the lines are in their range, and how many are not 0.
+#[derive(Clone, Copy)]
+struct Lines {
+    fit: bool,
+    count: usize,
 }
 
-// How many lines are not 0.
-fn non_zero(lines: &[i32]) -> usize
-    ensures { result ≡ non_zero lines.now }
+// Of the lines from one place to another: each at most 32,767, or 0 behind the last line. One loop: two chains (`all`, `filter`) take
+// three times as long.
+fn look_from(lines: &[i32], behind: bool, from: usize, to: usize) -> Lines
+    requires lines_len_bound { length lines.now ≤ 400 }
+    requires from_le_to { from ≤ to }
+    requires to_in_bounds { to ≤ length lines.now }
+    ensures fit_value { result.fit ≡ magnitudes_from (cond behind 0 32767) to lines.now (to - from) from }
+    ensures count_value { result.count ≡ non_zero_from lines.now (to - from) from }
+    ensures count_bound { result.count ≤ 400 }
 {
-    lines.iter().filter(|x| **x != 0).count()
+    let limit: i32 = if behind { 0 } else { 32767 };
+    let mut fit = true;
+    let mut count = 0;
+    for k in from..to {
+        let x = lines[k];
+        fit = fit & ((0 - limit <= x) & (x <= limit));
+        if x != 0 {
+            count = count + 1;
+        }
+    }
+    Lines { fit, count }
+}
+
+fn look_at(lines: &[i32], last: usize) -> Lines
+    requires { length lines.now ≤ 400 }
+    ensures fit_value { result.fit ≡ magnitudes_fit 32767 last lines.now }
+    ensures count_value { result.count ≡ non_zero lines.now }
+{
+    let n = lines.len();
+    let m = if last < n { last } else { n };
+    let a = look_from(lines, false, 0, m);
+    let b = look_from(lines, true, m, n);
+    Lines {
+        fit: a.fit & b.fit,
+        count: a.count + b.count,
+    }
 }
 
 // Whether lines and residual bits can be written with these fields.
 #[tactic(auto, unfolding(writer_laws::specs::Fits::lines_fit))]
 pub fn lines_fit(f: Fields, lines: &[i32], bits: &[u8]) -> bool
+    requires lines_len_bound { length lines.now ≤ 400 }
     ensures { result ≡ lines_fit f lines.now bits.now }
 {
+    let l = look_at(lines, usize::from(f.side.head.last_line));
     let n = usize::from(f.residual_bits);
-    magnitudes_fit(lines, usize::from(f.side.head.last_line))
-        && n == non_zero(lines)
-        && entries_fit(bits, 1, n)
+    l.fit && n == l.count && entries_fit(bits, 1, n)
 }
