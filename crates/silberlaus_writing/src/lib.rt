@@ -3,14 +3,14 @@
 #![tactic(auto)]
 
 ghost use Rattle.std.specs.Prelude.{◌≡◌};
-ghost use Rattle.writer.specs.Writer.{telling, answered};
+ghost use Rattle.writer.specs.Writer.{answered};
 ghost use Rattle.writer.specs.Trip.{Writes};
 ghost use Rattle.silberlaus_frames.specs.Frames.{frame_given};
 ghost use Rattle.silberlaus_writing.specs.Writing.{given_by, written_given};
 
 use frame::{Fields, Flags, Head, Shape, Side, Tail};
+use refusals::{Refusal, numbered};
 use silberlaus_frames::SilberlausFrame;
-use writer::Written;
 
 // C's silberlaus_written.
 #[repr(C)]
@@ -58,24 +58,13 @@ fn grouped(f: SilberlausFrame) -> Fields
     }
 }
 
-fn answer(number: u8, residual_bits: u16) -> SilberlausWritten
-    ensures { written_given result ≡ telling number residual_bits }
+// The answer of the writer, by document 01's numbers.
+fn written(answer: Result<u16, Refusal>) -> SilberlausWritten
+    ensures { written_given result ≡ answered answer }
 {
     SilberlausWritten {
-        number,
-        residual_bits,
-    }
-}
-
-// The answer of the writer, by document 01's numbers.
-fn numbered(r: Written) -> SilberlausWritten
-    ensures { written_given result ≡ answered r }
-{
-    match r {
-        Written::Sent(k) => answer(0, k),
-        Written::Setting => answer(1, 0),
-        Written::Length => answer(2, 0),
-        Written::TooSmall => answer(8, 0),
+        number: numbered(answer),
+        residual_bits: answer.unwrap_or(0),
     }
 }
 
@@ -93,7 +82,7 @@ pub fn write_frame(
 {
     let first = fields.tns_coefficients_0;
     let second = fields.tns_coefficients_1;
-    numbered(writer::write(
+    written(writer::write(
         khz,
         duration,
         grouped(fields),

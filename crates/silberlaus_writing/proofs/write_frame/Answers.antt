@@ -4,4 +4,4 @@ use Rattle.silberlaus_writing.proofs.write_frame.Goals as goal
 
 pub returns : goal.returns
 returns c =
-    told-by _ _ _ _ _ _ _ _ _ _ _ _ c.grouped.ensures c.numbered.ensures c.write.ensures
+    told-by _ _ _ _ _ _ _ _ _ _ _ _ c.grouped.ensures c.written.ensures c.write.ensures
