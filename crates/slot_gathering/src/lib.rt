@@ -69,7 +69,7 @@ pub fn gather(
         }
         let long = slot_sizes::word_length(size, counts.len(), i);
         let e = at + (long - checks);
-        message[at..e].copy_from_slice(&all[from + checks..from + long]);
+        copying::copy(&mut message[at..e], &all[from + checks..from + long]);
         sum += u16::from(*n);
         bit_sum += u16::from(bits[i]);
         from += long;

@@ -37,17 +37,17 @@ loop-i-init c =
 pub overflow_add-e : goal.overflow_add-e
 overflow_add-e c = record { fits = omega (arith, end-few (part c)) }
 
-pub slice_bounds-copy_from_slice-end : goal.slice_bounds-copy_from_slice-end
-slice_bounds-copy_from_slice-end c = before-end (part c)
+pub slice_bounds-copy-end : goal.slice_bounds-copy-end
+slice_bounds-copy-end c = before-end (part c)
 
 pub overflow_add-from : goal.overflow_add-from
 overflow_add-from c =
     let ends = word-ends (goal.at.overflow_add-from c).After-word_length-long in
     record { fits = omega arith }
 
-pub slice_bounds-copy_from_slice-end-in-loop-i : goal.slice_bounds-copy_from_slice-end-in-loop-i
-slice_bounds-copy_from_slice-end-in-loop-i c =
-    let at-word = (goal.at.slice_bounds-copy_from_slice-end-in-loop-i c).After-word_length-long in
+pub slice_bounds-copy-end-in-loop-i : goal.slice_bounds-copy-end-in-loop-i
+slice_bounds-copy-end-in-loop-i c =
+    let at-word = (goal.at.slice_bounds-copy-end-in-loop-i c).After-word_length-long in
     fits-in (part at-word) c.requires.semi_octets_of c.loop-i.invariant.place c.distance-checks.ensures
 
 pub overflow_add-from-in-loop-i : goal.overflow_add-from-in-loop-i
@@ -75,6 +75,6 @@ loop-i-preserved c =
       bits_to = omega arith;
       place = next-from a.size c.loop-i.i c.loop-i.from c.word_length-long.result now.place c.word_length-long.ensures.value;
       room = next_start word;
-      gathered = gathered_next word c.requires.semi_octets_of now.place c.distance-checks.ensures c.copy_from_slice.ensures.after
+      gathered = gathered_next word c.requires.semi_octets_of now.place c.distance-checks.ensures c.copy.ensures
           now.gathered c.from-sum.ensures c.from-bit_sum.ensures (omega (arith, c.from.ensures, c.if-mode-from.false));
     }
