@@ -64,7 +64,7 @@ impl Form {
     }
 }
 
-// The range of an entry's bits, which are unknown or as many as so many changed semi-octets can have.
+// The range of an entry's bits, which are unknown or as many as so many changed semi-octets can have. Test by test: one `||` is slower.
 #[tactic(auto, using(std::proofs::lemmas::Bool::Decides::nat_tests), unfolding(crate::specs::Ranges::bits_in_range))]
 fn bits_in_range(count: usize, bits: usize) -> bool
     requires { count ≤ 162 }
@@ -79,7 +79,7 @@ fn bits_in_range(count: usize, bits: usize) -> bool
     bits <= 4 * count
 }
 
-// The ranges of an entry's fields.
+// The ranges of an entry's fields, one `match` in the other: as one `&&` the walk of form 2 is slower.
 #[tactic(auto, using(std::proofs::lemmas::Bool::Decides::nat_tests), unfolding(crate::specs::Ranges::in_range))]
 pub fn in_range(request: usize, count: usize, bits: usize, length: usize) -> bool
     ensures { result ≡ in_range request count bits length }
