@@ -11,6 +11,8 @@ ghost use Rattle.frame_finish.specs.Finish.{lates_of, finished_of, sent_bits};
 ghost use Rattle.frame_pairs.specs.Pairs.{spectrum_given};
 ghost use Rattle.frame_pairs.specs.Sound.{Working, Small};
 
+use copying::copy;
+
 // The late low bits of LSB mode 1, into the first n lines.
 fn read_lates(s: &[u8], levels: &[u8], n: usize, lines: &mut [i32], start: usize, room: usize)
     requires left_in { LeftIn s.now start room }
@@ -30,16 +32,6 @@ fn read_lates(s: &[u8], levels: &[u8], n: usize, lines: &mut [i32], start: usize
             p = late.next;
             left = late.left;
         }
-    }
-}
-
-// The first lines, as many as are lent. A loop for the C interface: copy_from_slice of so many would want memmove of its caller.
-fn copy(lines: &[i32], out: &mut [i32])
-    requires { length out.old ≤ length lines.now }
-    ensures { out.new ≡ take (length out.old) lines.now }
-{
-    for (i, x) in out.iter_mut().enumerate() {
-        *x = lines[i];
     }
 }
 
@@ -70,13 +62,13 @@ pub fn finish(
     ensures small { Small spectrum.new }
     ensures upper_bound { result ≤ 400 }
 {
+    let n = spectrum.len();
     bits.fill(0);
     if lsb == 0 {
-        copy(lines, spectrum);
-        let n = bits.len();
+        copy(spectrum, &lines[..n]);
         return frame_residual::read_residual(s, lines, p, left, n, bits);
     }
     read_lates(s, levels, last, lines, p, left);
-    copy(lines, spectrum);
+    copy(spectrum, &lines[..n]);
     0
 }
