@@ -206,7 +206,10 @@ known-record s f n k = go (read_record form.Two s) (read_record form.One s) refl
         subst (λ (x : Form). Reads x s n) e.0 (record { whole = record { es = es; read = p; counted = sym e.1 }; either_read = rw p refl })
     go none (some es) p q r =
         let e = same-known form.One f (length es) n r in
-        subst (λ (x : Form). Reads x s n) e.0 (record { whole = record { es = es; read = q; counted = sym e.1 }; either_read = rw (p, q) refl })
+        subst (λ (x : Form). Reads x s n) e.0 (record {
+          whole = record { es = es; read = q; counted = sym e.1 };
+          either_read = rw (p, q) refl;
+        })
     go none none p q r = let z : ◌≡◌ {A = ℕ} 0 1 = cc in absurd (omega arith)
 
 known-damaged : (s : List ℕ) → known_in s ≡ None → read_either s ≡ none

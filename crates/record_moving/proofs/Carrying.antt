@@ -98,7 +98,8 @@ length-at f es a e b j = ap (λ (l : List RecordEntry). length (entries_bytes f 
 -- ---- one entry
 
 -- an entry that is put with its frame from the record ends where it is to end
-pub entry-placed : (f : Form) (s d after : List ℕ) (v : Located) (n size end : ℕ) → n ≡ v.length → size ≡ trailer_size f → v.start + v.length ≤ length s → v.length + trailer_size f ≤ end → end ≤ length d
+pub entry-placed : (f : Form) (s d after : List ℕ) (v : Located) (n size end : ℕ) → n ≡ v.length
+    → size ≡ trailer_size f → v.start + v.length ≤ length s → v.length + trailer_size f ≤ end → end ≤ length d
     → (let x = take (v.start + n - v.start) (drop v.start s) in
     after ≡ put d (end - (n + size)) (x ++ trailer_bytes f v.request v.count v.bits (length x)))
     → Placed d after (end - (n + size)) end

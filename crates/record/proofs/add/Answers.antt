@@ -66,7 +66,8 @@ walked c = sym c.walk.ensures ∙ some_given _ _ _ c.in_ok-walked.ensures.value
 known : (c : goal.In_ok-walked) → (5 ≤ c.args.used) × (c.in_ok-walked.walked.entries ≤ c.args.used)
 known c =
     let a = allowed (lent c) c.args.used (entry-of c) c.args.length (may-whole c) in
-    used-known form.Two (lent c) c.args.used (entry-of c) c.args.length a.inside (bytes c) c.in_ok-walked.walked.entries c.in_ok-walked.walked.end (walked c)
+    used-known form.Two (lent c) c.args.used (entry-of c) c.args.length a.inside (bytes c)
+    c.in_ok-walked.walked.entries c.in_ok-walked.walked.end (walked c)
 
 pub slice_bounds-walk-end : goal.slice_bounds-walk-end
 slice_bounds-walk-end c = (ok c).inside
@@ -97,7 +98,8 @@ full : (c : goal.In_ok-walked) → has_room form.Two (lent c) c.args.used (entry
     → (refused 6 ≡ add_answer form.Two (lent c) c.args.used (entry-of c) c.args.length)
     × (lent c ≡ add_buffer form.Two (lent c) c.args.used (entry-of c) c.args.length)
 full c =
-    add-full form.Two (lent c) c.args.used (entry-of c) c.args.length (may-whole c) (bytes c) c.in_ok-walked.walked.entries c.in_ok-walked.walked.end (walked c)
+    add-full form.Two (lent c) c.args.used (entry-of c) c.args.length (may-whole c) (bytes c)
+    c.in_ok-walked.walked.entries c.in_ok-walked.walked.end (walked c)
 
 pub returns-then-room-end : goal.returns-then-room-end
 returns-then-room-end c =
