@@ -3,7 +3,7 @@ use mathlib.Core.Bool.{true, false}
 use mathlib.Core.Path.{refl, ap, ◌∙◌}
 use Rattle.slot_laws.specs.Order.{request_swapped, Data}
 use Rattle.slot_laws.specs.Back.{request_in}
-use Rattle.slot_delivery.specs.Inner.{IsDelivered}
+use Rattle.slot_delivery.specs.Inner.{IsDelivered, AcceptedFrom}
 use Rattle.slot_delivery.proofs.HeadingSteps.{request-is, data-unmixed}
 use Rattle.slot_delivery.proofs.answer.Goals as goal
 use Rattle.slot_delivery.proofs.answer.Goals.{After-swap_request}
@@ -35,14 +35,14 @@ returns c =
     let a = c.args in
     let written : IsDelivered a.size a.mode (request_swapped a.size a.mode a.message.now) a.frame.now c.deliver.new.frame true =
     rw (c.if-not-deliver.false, c.swap_request.ensures) at c.deliver.ensures in
+    let accepted : AcceptedFrom a.size a.mode (request_swapped a.size a.mode a.message.now) a.count a.bits c.deliver.new.frame
+    _ a.count a.bits =
     record {
-      answered = record {
-        request =
-            request-is a.size c.first_hash_size.result c.swap_request.new.s c.first_hash_size.ensures.value
-            ∙ ap (request_in a.size) c.swap_request.ensures;
-        counted = refl;
-        bits_counted = refl;
-        written = written;
-      };
-      fact_2 = ordered (goal.at.returns c).After-swap_request;
-    }
+      request =
+          request-is a.size c.first_hash_size.result c.swap_request.new.s c.first_hash_size.ensures.value
+          ∙ ap (request_in a.size) c.swap_request.ensures;
+      counted = refl;
+      bits_counted = refl;
+      written = written;
+    } in
+    record { answered = accepted; fact_2 = ordered (goal.at.returns c).After-swap_request }

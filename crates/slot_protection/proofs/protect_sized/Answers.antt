@@ -1,15 +1,11 @@
 -- `slot_protection::protect_sized` meets its contract. Assumes nothing.
-use mathlib.Core.List.{◌++◌}
 use Rattle.slot_laws.proofs.ProtectSteps.{blanks, message-is, slot_is}
 use Rattle.slot_laws.proofs.Order.{data-of}
-use lib.Seq.{length-take-le, length_front}
+use lib.Seq.{length-take-le}
 use lib.ListN.{drop}
 use native.Mathlib.Omega.{arith}
-use mathlib.Core.Path.{sym, ◌∙◌}
+use mathlib.Core.Path.{◌∙◌}
 use Rattle.slot_protection.proofs.protect_sized.Goals as goal
-
-pub slice_bounds-arrange-end : goal.slice_bounds-arrange-end
-slice_bounds-arrange-end c = sym (length-take-le c.data_size-e.result blanks c.data_size-e.ensures.most)
 
 pub arrange-requires : goal.arrange-requires
 arrange-requires c = record {
@@ -19,17 +15,6 @@ arrange-requires c = record {
     room = length-take-le c.data_size-e.result blanks c.data_size-e.ensures.most ∙ c.data_size-e.ensures.is;
   };
 }
-
-pub slice_bounds-message-end-2 : goal.slice_bounds-message-end-2
-slice_bounds-message-end-2 c =
-    let w = length_front blanks c.arrange.new.out c.data_size-e.result c.arrange.auto.out in
-    omega (arith, c.data_size-e.ensures.most, w)
-
-pub slice_bounds-write_slot-end : goal.slice_bounds-write_slot-end
-slice_bounds-write_slot-end c =
-    let w = length_front blanks c.arrange.new.out c.data_size-e.result c.arrange.auto.out in
-    sym (length-take-le c.data_size-e.result (c.arrange.new.out ++ drop c.data_size-e.result blanks)
-    (omega (arith, c.data_size-e.ensures.most, w)))
 
 pub write_slot-requires : goal.write_slot-requires
 write_slot-requires c =

@@ -4,7 +4,7 @@ use mathlib.Core.List.{List, ◌++◌}
 use Prim.Native.Nat.{ℕ, ◌*◌}
 use native.Mathlib.Omega.{arith}
 use lib.ListN.{take, drop}
-use lib.Seq.{length-take-le, length_front}
+use lib.Seq.{length-take-le}
 use Rattle.slot_clean.specs.Inner.{unpacked, SemiOctetsOf}
 use Rattle.slot_laws.proofs.ProtectSteps.{blanks}
 use Rattle.slot_clean.proofs.Unpacking.{lent_is, unpacked-whole}
@@ -21,22 +21,11 @@ is c = lent_is c.args.size c.args.slot.now c.clean.new.places _ c.requires.long 
 whole : (c : After-clean) → SemiOctetsOf c.args.size c.args.mode (lent c.args.size c.clean.new.places)
 whole c = unpacked-whole c.args.size c.args.slot.now (lent c.args.size c.clean.new.places) c.requires.long (is c) c.requires.range
 
-pub slice_bounds-clean-end : goal.slice_bounds-clean-end
-slice_bounds-clean-end c = sym (length-take-le (2 * c.args.size) blanks (omega arith))
-
 pub clean-requires : goal.clean-requires
 clean-requires c = record {
   slot_and_data = c.requires;
   places_len = length-take-le (2 * c.args.size) blanks (omega arith);
 }
-
-pub returns-then-clean : goal.returns-then-clean
-returns-then-clean c = c.clean.ensures.mended_to c.if-clean.true
-
-pub slice_bounds-places-end-2 : goal.slice_bounds-places-end-2
-slice_bounds-places-end-2 c =
-    let l = length_front blanks c.clean.new.places (2 * c.args.size) c.clean.auto.places in
-    omega arith
 
 pub slice_bounds-repair-end : goal.slice_bounds-repair-end
 slice_bounds-repair-end c = let w = whole (goal.at.slice_bounds-repair-end c).After-clean in sym w.long

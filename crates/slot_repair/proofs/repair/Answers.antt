@@ -1,5 +1,5 @@
 -- `slot_repair::repair` meets its contract. The room that it lends is as long as asked. Assumes nothing.
-use mathlib.Core.Path.{◌≡◌, sym, ◌∙◌}
+use mathlib.Core.Path.{◌≡◌, ◌∙◌}
 use Prim.Native.Nat.{ℕ, ◌*◌, ◌≤◌}
 use native.Mathlib.Omega.{arith}
 use lib.Seq.{length-take-le}
@@ -11,15 +11,6 @@ use Rattle.slot_repair.proofs.repair.Goals as goal
 room-for : (count : ℕ) → count ≤ 54 → length {A = ℕ} (take count (replicate 54 0)) ≡ count
 room-for count l = length-take-le count (replicate 54 0) l
 
-pub slice_bounds-correct-end : goal.slice_bounds-correct-end
-slice_bounds-correct-end c = sym (length-take-le (2 * c.args.size) blanks (omega arith))
-
-pub slice_bounds-correct-end-2 : goal.slice_bounds-correct-end-2
-slice_bounds-correct-end-2 c = sym (room-for c.word_count-count.result c.word_count-count.ensures.upper_bound)
-
-pub slice_bounds-correct-end-3 : goal.slice_bounds-correct-end-3
-slice_bounds-correct-end-3 c = sym (room-for c.word_count-count.result c.word_count-count.ensures.upper_bound)
-
 pub correct-requires : goal.correct-requires
 correct-requires c =
     let many = room-for c.word_count-count.result c.word_count-count.ensures.upper_bound ∙ c.word_count-count.ensures.value in record {
@@ -27,6 +18,3 @@ correct-requires c =
       rooms = record { many = many; many_bits = many; given = c.requires.fact };
       all_len = length-take-le (2 * c.args.size) blanks (omega arith);
     }
-
-pub returns : goal.returns
-returns c = c.correct.ensures.repair_from
