@@ -86,21 +86,9 @@ below-from t h i p =
 
 -- ---- the tables
 
-pub look-length : length look_table ≡ 4096
+look-length : length look_table ≡ 4096
 unfolding look_table
 look-length = refl
-
-pub spectrum-length : length spectrum_table ≡ 1152
-unfolding spectrum_table
-spectrum-length = refl
-
-pub order-length : length order_table ≡ 18
-unfolding order_table
-order-length = refl
-
-pub coefficient-length : length coefficient_table ≡ 144
-unfolding coefficient_table
-coefficient-length = refl
 
 look-below : (i : ℕ) → i < 4096 → get_or look_table i 0 < 64
 unfolding look_table below-test part-test

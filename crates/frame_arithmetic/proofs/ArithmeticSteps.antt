@@ -6,7 +6,6 @@ use mathlib.Core.List.{List}
 use Prim.Native.Nat.{ℕ}
 use lib.IntN.{ℤ}
 use Rattle.coder_tables.specs.Tables.{order_table, coefficient_table}
-use Rattle.coder_tables.proofs.Rules.{order_row, coefficient-row}
 use Rattle.frame_bits.specs.Read.{Read, value, cause}
 use Rattle.frame_coder.specs.Symbol.{start_of}
 use Rattle.frame_tns.specs.Tns.{Filter, filter_of}
@@ -14,7 +13,6 @@ use Rattle.frame_spectral.specs.Spectral.{Spectral, spectral_from}
 use Rattle.frame_arithmetic.specs.Answers.{Whole, arithmetic_from}
 use Rattle.frame_arithmetic.specs.Answers.{Judged, refused, judged_read, given_of, Answers}
 use Rattle.frame_answers.specs.Answers.{Given, refused_with, told}
-use Rattle.frame_tns.specs.Sound.{TnsTables}
 use Rattle.frame_settings.specs.declared.Setting.{Setting}
 use Rattle.frame_side.specs.declared.Side.{Side}
 use Rattle.frame_coder.specs.declared.Coder.{Coder}
@@ -25,11 +23,6 @@ use Rattle.refusals.specs.declared.Refusal.TheVariants as refusal
 use Rattle.refusals.specs.Numbers.{cause_number}
 use Rattle.frame_answers.specs.declared.Reading.{Reading}
 
--- ---- the tables
-
-pub tns-tables : (orders rows : List ℕ) → orders ≡ order_table → rows ≡ coefficient_table → TnsTables orders rows
-tns-tables orders rows e f = rw (e, f) (record { order = order_row; coefficient = coefficient-row })
-
 -- ---- the arithmetic stream
 
 -- what the two filters' data are
@@ -39,13 +32,9 @@ First s r v x = filter_of s order_table coefficient_table r.duration v.flags.tns
 abbrev pub Second : List ℕ → Setting → Side → Coder → Read Coder Filter → Type 0
 Second s r v c x = filter_of s order_table coefficient_table r.duration v.flags.tns_1 c ≡ x
 
-module _ (s : List ℕ) (r : Setting) (v : Side) (c : Coder) (orders rows : List ℕ) (x : Read Coder Filter) (e : orders ≡ order_table)
-    (f : rows ≡ coefficient_table) where
-  pub first-at : c ≡ start_of s → x ≡ filter_of s orders rows r.duration v.flags.tns_0 c → First s r v x
-  first-at o q = sym (rw (e, f, o) at q)
-
-  pub second_at : x ≡ filter_of s orders rows r.duration v.flags.tns_1 c → Second s r v c x
-  second_at q = sym (rw (e, f) at q)
+pub first-at : (s : List ℕ) (r : Setting) (v : Side) (c : Coder) (x : Read Coder Filter) → c ≡ start_of s
+    → x ≡ filter_of s order_table coefficient_table r.duration v.flags.tns_0 c → First s r v x
+first-at s r v c x o q = sym (rw o at q)
 
 pub arithmetic-first : (s : List ℕ) (r : Setting) (v : Side) (p k : ℕ) → First s r v (cause k) → arithmetic_from s r v p ≡ cause k
 unfolding arithmetic_from

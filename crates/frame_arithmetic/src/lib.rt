@@ -36,15 +36,13 @@ pub fn read_arithmetic(
         spectrum.old spectrum.new residual.old residual.new }
     ensures bounded { Bounded (last_cause (order_of r.duration)) (told result) spectrum.new }
 {
-    let orders = coder_tables::tns_order();
-    let rows = coder_tables::tns_coefficients();
     let q = r.duration;
     let flags = v.flags;
     let mut first = [0u8; 8];
     let mut second = [0u8; 8];
     let start = frame_coder::start(frame);
-    let order_0 = filter(frame, orders, rows, q, flags.tns_0, &mut first, start)?;
-    let order_1 = filter(frame, orders, rows, q, flags.tns_1, &mut second, order_0.next)?;
+    let order_0 = filter(frame, q, flags.tns_0, &mut first, start)?;
+    let order_1 = filter(frame, q, flags.tns_1, &mut second, order_0.next)?;
     let from = Streams {
         coder: order_1.next,
         side: p,

@@ -11,9 +11,10 @@ use lib.Dec.{ltb}
 use lib.ListN.{length, get_or}
 use lib.Pow.{pow_mono}
 use borrow.Author.Tests.{ltb-true, ltb-false, lt-ltb, le-ltb, eq-eqb, ne_eqb}
-use Rattle.coder_tables.specs.Layout.{by_level}
+use Rattle.coder_tables.specs.Layout.{by_context}
 use Rattle.coder_tables.specs.Rows.{Row, SpectrumTables}
-use Rattle.coder_tables.proofs.LayoutRules.{by-level-at}
+use Rattle.coder_tables.specs.Tables.{look_table}
+use Rattle.coder_tables.proofs.LayoutRules.{by-context-at}
 use Rattle.std.specs.Prelude.{Result, Ok, Err}
 use Rattle.refusals.specs.declared.Cause.{Cause}
 use Rattle.refusals.specs.Numbers.{cause_number}
@@ -57,10 +58,11 @@ pub capped_le : (level : ℕ) → capped level ≤ 3
 capped_le level = capped-by level (ltb level 3) refl
 
 -- the code's table has the four levels of a context side by side
-pub row_is : (look : List ℕ) (base level l r : ℕ) → base < 1024 → l < 4 → l ≡ capped level → r ≡ get_or look (4 * base + l) 0
-    → r * 18 ≡ row_of (by_level look) base level
-row_is look base level l r h i e f =
-    ap (λ (k : ℕ). k * 18) (f ∙ sym (by-level-at look base l h i) ∙ ap (λ (k : ℕ). get_or (by_level look) (base + 1024 * k) 0) e)
+pub row_is : (base level l r : ℕ) → base < 1024 → l < 4 → l ≡ capped level → r ≡ get_or (by_context look_table) (4 * base + l) 0
+    → r * 18 ≡ row_of look_table base level
+row_is base level l r h i e f =
+    let p : 1024 * l + base ≡ base + 1024 * capped level = omega arith in
+    ap (λ (k : ℕ). k * 18) (f ∙ by-context-at look_table base l h i ∙ ap (λ (k : ℕ). get_or look_table k 0) p)
 
 pub row_at : (look cum : List ℕ) (base level r : ℕ) → SpectrumTables look cum → base < 1024 → r ≡ row_of look base level → Row cum r 16
 row_at look cum base level r t h e =

@@ -1,8 +1,6 @@
 -- What the reader's own steps promise each other beside their definitions: bounds of what is read, and cursors that stay inside.
 -- No public promise but `Bounded` of `frame` rests on a line of this. Assumes nothing.
 use Rattle.std.specs.Prelude.{◌≡◌, Result, Ok, Err, List, ℕ, ◌+◌, ◌*◌, ◌^◌, ◌<◌, ◌≤◌, length}
-use Rattle.coder_tables.specs.Layout.{by_level}
-use Rattle.coder_tables.specs.Rows.{SpectrumTables}
 use Rattle.frame_bits.specs.declared.Step.{Step}
 use Rattle.frame_coder.specs.declared.Coder.{Coder}
 use Rattle.frame_pair.specs.declared.Last.{Last}
@@ -12,11 +10,6 @@ use Rattle.frame_pair.specs.declared.Values.{Values}
 use Rattle.refusals.specs.declared.Cause.{Cause}
 use Rattle.refusals.specs.Numbers.{cause_number}
 use Rattle.frame_coder.specs.Sound.{Sound}
-
--- what a pair is read with: the lookups context after context, and the rows that they name
-pub record PairTables (look cum : List ℕ) : Type 0 where
-  pub looks : length look ≡ 4096
-  pub rows : SpectrumTables (by_level look) cum
 
 abbrev pub GoodSign : Result (Step ℕ ℕ) Cause → Type 0
 GoodSign (Ok sign) = sign.value < 2

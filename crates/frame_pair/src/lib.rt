@@ -1,18 +1,18 @@
 // One pair of lines (5.4.2.7): escapes, a last symbol, the signs and the next context. Each function equals its definition in
-// specs/Pair.antt; specs/Sound.antt has the bounds that one step gives the next. `look` has the lookups context after context,
-// `by_level` is the standard's order of them.
-// Inner: `frame_pairs` stands over it, `writer_pair` over `row_of` and `next_context`. It asks for a frame of 20 to 400 bytes, for the
-// tables of the spectrum, and for a cursor of `frame_coder`.
+// specs/Pair.antt; specs/Sound.antt has the bounds that one step gives the next.
+// Inner: `frame_pairs` stands over it, `writer_pair` over `row_of` and `next_context`. It asks for a frame of 20 to 400 bytes and for a
+// cursor of `frame_coder`.
 #![tactic(auto)]
 
-ghost use Rattle.std.specs.Prelude.{◌≡◌, ◌+◌, ◌*◌, ◌^◌, ◌≤◌, ◌<◌, ◌/◌, ◌%◌, length};
-ghost use Rattle.coder_tables.specs.Layout.{by_level};
+ghost use Rattle.std.specs.Prelude.{◌≡◌, ◌+◌, ◌*◌, ◌^◌, ◌≤◌, ◌<◌, ◌/◌, ◌%◌};
+ghost use Rattle.coder_tables.specs.Tables.{look_table, spectrum_table};
 ghost use Rattle.frame_settings.specs.Settings.{Sized};
 ghost use Rattle.frame_bits.specs.Read.{given};
 ghost use Rattle.frame_pair.specs.Pair.{row_of, plane_of, last_of, sign_of, context_of, pair_of};
 ghost use Rattle.frame_coder.specs.Sound.{Ready};
-ghost use Rattle.frame_pair.specs.Sound.{PairTables, Escaped, GoodSign, GoodPlane, GoodLast, GoodPair};
+ghost use Rattle.frame_pair.specs.Sound.{Escaped, GoodSign, GoodPlane, GoodLast, GoodPair};
 
+use coder_tables::{lookup, spectrum};
 use frame_bits::{Step, read_bit};
 use frame_coder::{Coder, decode};
 use refusals::Cause;
@@ -52,12 +52,12 @@ pub struct Pair {
 }
 
 // Where the row of a context and a level starts.
-pub fn row_of(look: &[u8], base: usize, level: usize) -> usize
-    requires look_len { length look.now ≡ 4096 }
-    requires base_bound { base < 1024 }
-    ensures value { result ≡ row_of (by_level look.now) base level }
+pub fn row_of(base: usize, level: usize) -> usize
+    requires { base < 1024 }
+    ensures value { result ≡ row_of look_table base level }
     ensures upper_bound { result < 65536 }
 {
+    let look = lookup();
     usize::from(look[4 * base + level.min(3)]) * 18
 }
 
@@ -99,26 +99,18 @@ fn read_plane(
 }
 
 // The escapes of a pair up to its last symbol.
-fn read_last(
-    s: &[u8],
-    look: &[u8],
-    cum: &[u16],
-    lsb: usize,
-    base: usize,
-    from: Streams,
-) -> Result<Step<Last, Streams>, Cause>
+fn read_last(s: &[u8], lsb: usize, base: usize, from: Streams) -> Result<Step<Last, Streams>, Cause>
     requires ready { Ready s.now from.coder 32768 }
-    requires pair_tables { PairTables look.now cum.now }
     requires lsb_bound { lsb < 2 }
     requires base_bound { base < 1024 }
     ensures result_value { given result
-        ≡ last_of s.now (by_level look.now) cum.now lsb base 14 0 0 0 from.coder from.side }
+        ≡ last_of s.now look_table spectrum_table lsb base 14 0 0 0 from.coder from.side }
     ensures good_last { GoodLast s.now lsb from.coder result }
 {
     let mut at = from;
     let mut v = Values { x: 0, y: 0 };
     for level in 0..14 {
-        let got = decode(s, cum, row_of(look, base, level), 16, at.coder)?;
+        let got = decode(s, spectrum(), row_of(base, level), 16, at.coder)?;
         if got.value < 16 {
             return Ok(Step {
                 value: Last {
@@ -172,22 +164,19 @@ pub fn next_context(c: usize, v: usize, level: usize) -> usize
 // One pair of lines: escapes, the last symbol, low bits and signs.
 pub fn read_pair(
     s: &[u8],
-    look: &[u8],
-    cum: &[u16],
     lsb: usize,
     base: usize,
     context: usize,
     from: Streams,
 ) -> Result<Step<Pair, Streams>, Cause>
     requires ready { Ready s.now from.coder 32768 }
-    requires pair_tables { PairTables look.now cum.now }
     requires lsb_bound { lsb < 2 }
     requires base_bound { base < 1024 }
     ensures result_value { given result
-        ≡ pair_of s.now (by_level look.now) cum.now lsb base context from.coder from.side }
+        ≡ pair_of s.now look_table spectrum_table lsb base context from.coder from.side }
     ensures good_pair { GoodPair s.now lsb from.coder result }
 {
-    let last = read_last(s, look, cum, lsb, base, from)?;
+    let last = read_last(s, lsb, base, from)?;
     let l = last.value;
     let coder = last.next.coder;
     let x = above(l.x, l.symbol % 4, l.level);

@@ -4,7 +4,7 @@ use Rattle.std.specs.Prelude.{◌≡◌, Result, Ok, Err, List, ℕ, ◌+◌, �
 use Rattle.frame_coder.specs.declared.Coder.{Coder}
 use Rattle.frame_pairs.specs.declared.PairSetting.{PairSetting}
 use Rattle.frame_coder.specs.Sound.{Sound, Ready}
-use Rattle.frame_pair.specs.Sound.{Room, PairTables}
+use Rattle.frame_pair.specs.Sound.{Room}
 use Rattle.frame_pair.specs.declared.Streams.{Streams}
 use Rattle.refusals.specs.declared.Cause.{Cause}
 use Rattle.refusals.specs.Numbers.{cause_number}
@@ -17,10 +17,9 @@ Roomy lsb lines levels = (i : ℕ) → Room lsb (get_or levels (i / 2) 0) (nat_a
 abbrev pub Small : List ℤ → Type 0
 Small lines = (i : ℕ) → nat_abs (get_or lines i (pos 0)) ≤ 32767
 
--- what the pairs are read with: the frame, the tables, what the rate gives, the number of pairs, and both cursors
-pub record PairsFrom (s look cum : List ℕ) (o : PairSetting) (n : ℕ) (c : Coder) (p : ℕ) : Type 0 where
+-- what the pairs are read with: the frame, what the rate gives, the number of pairs, and both cursors
+pub record PairsFrom (s : List ℕ) (o : PairSetting) (n : ℕ) (c : Coder) (p : ℕ) : Type 0 where
   pub ready : Ready s c 19
-  pub tables : PairTables look cum
   pub mode : o.lsb < 2
   pub offset : o.offset ≤ 512
   pub pairs : n ≤ 200

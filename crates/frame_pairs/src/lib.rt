@@ -4,7 +4,7 @@
 #![tactic(auto)]
 
 ghost use Rattle.std.specs.Prelude.{◌≡◌, ◌+◌, ◌*◌, ◌≤◌, ◌<◌, length};
-ghost use Rattle.coder_tables.specs.Layout.{by_level};
+ghost use Rattle.coder_tables.specs.Tables.{look_table, spectrum_table};
 ghost use Rattle.frame_pairs.specs.Pairs.{base_of, line_of, store_of, pairs_of, pairs_given};
 ghost use Rattle.frame_pairs.specs.Sound.{PairsFrom, Working, GoodPairs};
 
@@ -52,18 +52,16 @@ fn store(lines: &mut [i32], k: usize, q: Pair)
 // n pairs from line 0 on: the cursors behind them, or a cause; the lines and levels stand in the lent slices.
 pub fn read_pairs(
     s: &[u8],
-    look: &[u8],
-    cum: &[u16],
     o: PairSetting,
     n: usize,
     from: Streams,
     lines: &mut [i32],
     levels: &mut [u8],
 ) -> Result<Streams, Cause>
-    requires pairs_from { PairsFrom s.now look.now cum.now o n from.coder from.side }
+    requires pairs_from { PairsFrom s.now o n from.coder from.side }
     requires working { Working o.lsb lines.old levels.old }
     ensures levels_after { pairs_given result lines.new levels.new
-        ≡ pairs_of s.now (by_level look.now) cum.now o n 0 0 from.coder from.side
+        ≡ pairs_of s.now look_table spectrum_table o n 0 0 from.coder from.side
         lines.old levels.old }
     ensures good_pairs { GoodPairs s.now o.lsb n from.coder result lines.new levels.new }
 {
@@ -71,7 +69,7 @@ pub fn read_pairs(
     let mut context = 0;
     for k in 0..n {
         let base = base_of(context, o.offset, o.half, 2 * k);
-        let pair = read_pair(s, look, cum, o.lsb, base, context, at)?;
+        let pair = read_pair(s, o.lsb, base, context, at)?;
         let q = pair.value;
         store(lines, k, q);
         levels[k] = q.level as u8;

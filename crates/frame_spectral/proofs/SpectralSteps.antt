@@ -7,13 +7,9 @@ use native.Mathlib.Omega.{arith}
 use lib.ListN.{length, take, get_or, replicate}
 use lib.IntN.{ℤ, pos}
 use Rattle.coder_tables.specs.Tables.{look_table, spectrum_table}
-use Rattle.coder_tables.specs.Layout.{by_context, by_level}
-use Rattle.coder_tables.proofs.Rules.{look-length, spectrum-tables}
-use Rattle.coder_tables.proofs.LayoutRules.{length-by-context, by-level-back}
 use Rattle.frame_bits.specs.Read.{Read, value, cause}
 use Rattle.frame_settings.specs.Settings.{rate_offset}
 use Rattle.frame_pair.specs.declared.Streams.{Streams}
-use Rattle.frame_pair.specs.Sound.{PairTables}
 use Rattle.frame_pairs.specs.Pairs.{Spectrum, pairs_of}
 use Rattle.frame_residual.specs.Residual.{Residual, left_of}
 use Rattle.frame_spectral.specs.Spectral.{Spectral, pair_setting, spectral_of, spectral_from}
@@ -22,16 +18,6 @@ use Rattle.frame_pairs.specs.Sound.{Roomy}
 use Rattle.frame_settings.specs.declared.Setting.{Setting}
 use Rattle.frame_side.specs.declared.Head.{Head}
 use Rattle.frame_coder.specs.declared.Coder.{Coder}
-
--- ---- the tables
-
--- the code's lookups in the standard's order are the standard's
-standard : (look : List ℕ) → look ≡ by_context look_table → by_level look ≡ look_table
-standard look e = ap by_level e ∙ by-level-back look_table look-length
-
-pub tables : (look cum : List ℕ) → look ≡ by_context look_table → cum ≡ spectrum_table → PairTables look cum
-tables look cum e f =
-    record { looks = ap length e ∙ length-by-context look_table; rows = rw (standard look e, f) spectrum-tables }
 
 -- ---- the working spectrum starts as zeros
 
@@ -59,14 +45,13 @@ pairs_at s r h c p =
     pairs_of s look_table spectrum_table (pair_setting r (length s) h.lsb_mode) (h.last_line / 2) 0 0 c p
     (replicate 400 (pos 0)) (replicate 200 0)
 
-pub pairs-at : (s : List ℕ) (r : Setting) (h : Head) (c : Coder) (p : ℕ) (look cum : List ℕ) (lsb offset n : ℕ) (x : Read Streams Spectrum)
-    → look ≡ by_context look_table → cum ≡ spectrum_table → lsb ≡ h.lsb_mode → offset ≡ rate_offset r.index (length s)
-    → n ≡ h.last_line / 2
-    → x ≡ pairs_of s (by_level look) cum (record { lsb = lsb; offset = offset; half = r.lines / 2 }) n 0 0 c p
+pub pairs-at : (s : List ℕ) (r : Setting) (h : Head) (c : Coder) (p lsb offset n : ℕ) (x : Read Streams Spectrum)
+    → lsb ≡ h.lsb_mode → offset ≡ rate_offset r.index (length s) → n ≡ h.last_line / 2
+    → x ≡ pairs_of s look_table spectrum_table (record { lsb = lsb; offset = offset; half = r.lines / 2 }) n 0 0 c p
     (replicate 400 (pos 0)) (replicate 200 0)
     → pairs_at s r h c p ≡ x
 unfolding pairs_at
-pairs-at s r h c p look cum lsb offset n x e f l o m q = sym (rw (standard look e, f, l, o, m) at q)
+pairs-at s r h c p lsb offset n x l o m q = sym (rw (l, o, m) at q)
 
 pub spectral-pairs : (s : List ℕ) (r : Setting) (h : Head) (c : Coder) (p k : ℕ) → pairs_at s r h c p ≡ cause k
     → spectral_from s r h c p ≡ cause k

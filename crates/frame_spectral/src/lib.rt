@@ -44,8 +44,6 @@ pub fn read_spectral(
     ensures kept_on_cause { KeptOnCause result spectrum.old spectrum.new residual.old residual.new }
     ensures good_spectral { GoodSpectral h.last_line result spectrum.new }
 {
-    let look = coder_tables::lookup();
-    let cum = coder_tables::spectrum();
     let mut x = [0i32; 400];
     let mut levels = [0u8; 200];
     let lsb = usize::from(h.lsb_mode);
@@ -55,7 +53,7 @@ pub fn read_spectral(
         offset: frame_settings::rate_offset(r.index, frame.len()),
         half: r.lines / 2,
     };
-    let at = frame_pairs::read_pairs(frame, look, cum, o, last / 2, from, &mut x, &mut levels)?;
+    let at = frame_pairs::read_pairs(frame, o, last / 2, from, &mut x, &mut levels)?;
     let left = frame_residual::bits_left(frame.len(), at.side, at.coder)?;
     let count = frame_finish::finish(
         frame, lsb, last, &mut x, &levels, at.side, left, spectrum, residual,

@@ -4,18 +4,12 @@ use mathlib.Core.List.{List}
 use Rattle.std.specs.Prelude.{Option, Some, None}
 use Prim.Native.Nat.{ℕ, ◌/◌, ◌≤◌}
 use native.Mathlib.Omega.{arith}
-use lib.ListN.{length}
 use Rattle.coder_tables.specs.Tables.{look_table, spectrum_table, order_table, coefficient_table}
-use Rattle.coder_tables.specs.Layout.{by_context, by_level}
-use Rattle.coder_tables.proofs.Rules.{look-length, spectrum-tables, order_row, coefficient-row}
-use Rattle.coder_tables.proofs.LayoutRules.{length-by-context, by-level-back}
 use Rattle.frame_bits.specs.Fields.{list_bits}
 use Rattle.frame_coder.specs.declared.Coder.{Coder}
 use Rattle.frame_settings.specs.Settings.{weighting, rate_offset}
 use Rattle.frame_settings.specs.declared.Setting.{Setting}
 use Rattle.frame_side.specs.Side.{side_fields}
-use Rattle.frame_tns.specs.Sound.{TnsTables}
-use Rattle.frame_pair.specs.Sound.{PairTables}
 use Rattle.writer_laws.specs.Stream.{send_start, coded_all, whole_of}
 use Rattle.writer_laws.specs.SideBits.{side_values}
 use Rattle.writer_laws.specs.Tns.{filter_items}
@@ -29,21 +23,6 @@ use Rattle.writer_steps.specs.Sends.{Sends, PairsAre}
 use Rattle.writer_steps.specs.Frames.{StreamsAre}
 use Rattle.writer_steps.specs.declared.Cursor.{Cursor}
 use Rattle.writer_steps.specs.declared.PairsSent.{PairsSent}
-
--- ---- the tables
-
-pub tns-tables : (orders rows : List ℕ) → orders ≡ order_table → rows ≡ coefficient_table → TnsTables orders rows
-tns-tables orders rows e f = rw (e, f) (record { order = order_row; coefficient = coefficient-row })
-
--- the code's lookups in the standard's order are the standard's
-standard : (look : List ℕ) → look ≡ by_context look_table → by_level look ≡ look_table
-standard look e = ap by_level e ∙ by-level-back look_table look-length
-
-pub pair-tables : (look cum : List ℕ) → look ≡ by_context look_table → cum ≡ spectrum_table → PairTables look cum
-pair-tables look cum e f =
-    record { looks = ap length e ∙ length-by-context look_table; rows = rw (standard look e, f) spectrum-tables }
-
--- ---- the parts
 
 pub start-counts : (c : Coder) → c ≡ send_start → (c.at ≡ 3) × (c.taken ≡ 0)
 start-counts c e = (ap (λ (d : Coder). d.at) e, ap (λ (d : Coder). d.taken) e)
@@ -62,11 +41,11 @@ module _ (r : Setting) (n : ℕ) (g : Given) where
   before-kept k puts = puts field_bits k
 
   -- the first filter, then the second, behind the start
-  pub filtered-is : (orders rows : List ℕ) (w a b : ℕ) (c d e : Coder) → orders ≡ order_table → rows ≡ coefficient_table
-      → w ≡ weighting r.duration n → a ≡ g.fields.tns_order_0 → b ≡ g.fields.tns_order_1 → c ≡ send_start
-      → d ≡ coded_all (filter_items orders rows w a g.first) c → e ≡ coded_all (filter_items orders rows w b g.second) d
+  pub filtered-is : (w a b : ℕ) (c d e : Coder) → w ≡ weighting r.duration n → a ≡ g.fields.tns_order_0 → b ≡ g.fields.tns_order_1
+      → c ≡ send_start → d ≡ coded_all (filter_items order_table coefficient_table w a g.first) c
+      → e ≡ coded_all (filter_items order_table coefficient_table w b g.second) d
       → e ≡ behind1 r n g
-  filtered-is orders rows w a b c d e io ir iw ia ib ic id ie = rw (id, ic, io, ir, iw, ia, ib) at ie
+  filtered-is w a b c d e iw ia ib ic id ie = rw (id, ic, iw, ia, ib) at ie
 
   -- both streams behind the filters have room for the pairs
   pub sends-filtered : (front side : List ℕ) (c d e : Coder) (p : Cursor) → Flows front e → Open side p → p.at ≤ 74 → c.at ≡ 3
@@ -94,9 +73,9 @@ module _ (r : Setting) (n : ℕ) (g : Given) where
         let a = kept.at in
         omega arith
 
-    pub streams-are : (look cum : List ℕ) (lsb offset m : ℕ) (o : Option PairsSent) → look ≡ by_context look_table → cum ≡ spectrum_table
-        → lsb ≡ g.fields.side.head.lsb_mode → offset ≡ rate_offset r.index n → m ≡ g.fields.side.head.last_line
-        → PairsAre n (pairs_items (by_level look) cum (record { lsb = lsb; offset = offset; half = r.lines / 2 }) g.lines (m / 2) 0 0)
+    pub streams-are : (lsb offset m : ℕ) (o : Option PairsSent) → lsb ≡ g.fields.side.head.lsb_mode → offset ≡ rate_offset r.index n
+        → m ≡ g.fields.side.head.last_line
+        → PairsAre n (pairs_items look_table spectrum_table (record { lsb = lsb; offset = offset; half = r.lines / 2 }) g.lines (m / 2) 0 0)
         (pairs_bits g.lines (m / 2) 0) front front' side side' c p o
         → StreamsAre r n g front' side' o
-    streams-are look cum lsb offset m o il ic ib io im h = behind o (rw (standard look il, ic, ib, io, im) at h)
+    streams-are lsb offset m o ib io im h = behind o (rw (ib, io, im) at h)

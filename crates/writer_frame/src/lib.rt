@@ -35,32 +35,18 @@ fn write_streams(
     ensures { StreamsAre r bytes (given f first.now second.now lines.now bits.now)
         front.new side.new result }
 {
-    let orders = coder_tables::tns_order();
-    let rows = coder_tables::tns_coefficients();
-    let look = coder_tables::lookup();
-    let cum = coder_tables::spectrum();
     let h = f.side.head;
     let w = tns_weighting(r.duration, bytes);
     let p = put_side(r, f.side, side);
     let c = writer_stream::start(front);
-    let c1 = write_filter(orders, rows, w, usize::from(f.tns_order_0), first, c, front);
-    let c2 = write_filter(
-        orders,
-        rows,
-        w,
-        usize::from(f.tns_order_1),
-        second,
-        c1,
-        front,
-    );
+    let c1 = write_filter(w, usize::from(f.tns_order_0), first, c, front);
+    let c2 = write_filter(w, usize::from(f.tns_order_1), second, c1, front);
     let o = PairSetting {
         lsb: usize::from(h.lsb_mode),
         offset: rate_offset(r.index, bytes),
         half: r.lines / 2,
     };
     write_pairs(
-        look,
-        cum,
         o,
         lines,
         usize::from(h.last_line) / 2,

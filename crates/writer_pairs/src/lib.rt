@@ -5,8 +5,7 @@
 #![tactic(auto)]
 
 ghost use Rattle.std.specs.Prelude.{◌+◌, ◌*◌, ◌≤◌, length};
-ghost use Rattle.coder_tables.specs.Layout.{by_level};
-ghost use Rattle.frame_pair.specs.Sound.{PairTables};
+ghost use Rattle.coder_tables.specs.Tables.{look_table, spectrum_table};
 ghost use Rattle.frame_pairs.specs.Sound.{Small};
 ghost use Rattle.writer_steps.specs.Sends.{Sends, PairsAre};
 ghost use Rattle.writer_laws.specs.Pairs.{pairs_items, pairs_bits};
@@ -18,8 +17,6 @@ use writer_steps::{Cursor, PairsSent};
 
 // The first n pairs, into a frame of so many bytes.
 pub fn write_pairs(
-    look: &[u8],
-    cum: &[u16],
     o: PairSetting,
     lines: &[i32],
     n: usize,
@@ -29,7 +26,6 @@ pub fn write_pairs(
     front: &mut [u8],
     side: &mut [u8],
 ) -> Option<PairsSent>
-    requires pair_tables { PairTables look.now cum.now }
     requires offset_bound { o.offset ≤ 512 }
     requires le_n { 1 ≤ n }
     requires n_bound { n ≤ 200 }
@@ -37,7 +33,7 @@ pub fn write_pairs(
     requires small { Small lines.now }
     requires bytes_bound { bytes ≤ 400 }
     requires sends { Sends 39 18 74 front.old side.old first start }
-    ensures { PairsAre bytes (pairs_items (by_level look.now) cum.now o lines.now n 0 0)
+    ensures { PairsAre bytes (pairs_items look_table spectrum_table o lines.now n 0 0)
         (pairs_bits lines.now n 0)
         front.old front.new side.old side.new first start result }
 {
@@ -47,8 +43,6 @@ pub fn write_pairs(
     for k in 0..n {
         let base = base_of(context, o.offset, o.half, 2 * k);
         let w = write_pair(
-            look,
-            cum,
             base,
             context,
             lines[2 * k],

@@ -6,4 +6,5 @@ use Rattle.frame_pair.proofs.row_of.Goals as goal
 
 pub returns-clause-value : goal.returns-clause-value
 returns-clause-value c =
-    row_is _ _ c.args.level c.min.result _ c.requires.base_bound (omega arith) (c.min.ensures ∙ capped-min c.args.level) c.from.ensures
+    row_is _ c.args.level c.min.result _ c.requires (omega arith) (c.min.ensures ∙ capped-min c.args.level)
+    (rw c.lookup-look.ensures at c.from.ensures)

@@ -2,7 +2,7 @@
 use native.Mathlib.Omega.{arith}
 use Rattle.writer_laws.specs.Writing.{Given, given}
 use Rattle.writer_frame.proofs.Asked.{asked}
-use Rattle.writer_frame.proofs.Streaming.{tns-tables, pair-tables, start-counts, filtered-is, sends-filtered, streams-are}
+use Rattle.writer_frame.proofs.Streaming.{start-counts, filtered-is, sends-filtered, streams-are}
 use Rattle.writer_frame.proofs.write_streams.Goals as goal
 
 pub put_side-p-requires : goal.put_side-p-requires
@@ -23,7 +23,6 @@ write_filter-c1-requires c =
     let n0 = n.0 in
     let n1 = n.1 in
     record {
-      tns_tables = tns-tables _ _ c.tns_order-orders.ensures c.tns_coefficients-rows.ensures;
       w_bound = c.tns_weighting-w.ensures.upper_bound;
       order_bound = omega arith;
       l_len = c.requires.writable.first;
@@ -44,7 +43,6 @@ write_filter-c2-requires c =
     let more0 = c.write_filter-c1.ensures.within.at in
     let more1 = c.write_filter-c1.ensures.within.taken in
     record {
-      tns_tables = tns-tables _ _ c.tns_order-orders.ensures c.tns_coefficients-rows.ensures;
       w_bound = c.tns_weighting-w.ensures.upper_bound;
       order_bound = omega arith;
       l_len = c.requires.writable.second;
@@ -68,7 +66,6 @@ write_pairs-requires c =
     c.put_side-p.ensures.at_bound n.0 n.1
     c.write_filter-c1.ensures.within c.write_filter-c2.ensures.within in
     record {
-      pair_tables = pair-tables _ _ c.lookup-look.ensures c.spectrum-cum.ensures;
       offset_bound = c.rate_offset.ensures.upper_bound;
       le_n = omega arith;
       n_bound = omega arith;
@@ -83,9 +80,8 @@ returns c =
     let whole : Given =
     given c.args.f c.args.first.now c.args.second.now c.args.lines.now c.args.bits.now in
     let e =
-    filtered-is c.args.r c.args.bytes whole _ _ _ _ _ _ _ _ c.tns_order-orders.ensures
-    c.tns_coefficients-rows.ensures c.tns_weighting-w.ensures.value c.from.ensures
+    filtered-is c.args.r c.args.bytes whole _ _ _ _ _ _ c.tns_weighting-w.ensures.value c.from.ensures
     c.from-2.ensures c.start-c.ensures.result_value c.write_filter-c1.ensures.result_after c.write_filter-c2.ensures.result_after in
-    streams-are c.args.r c.args.bytes whole _ c.write_pairs.new.front _ c.write_pairs.new.side _ _ e c.put_side-p.ensures.kept _ _ _ _ _
-    c.write_pairs.result c.lookup-look.ensures c.spectrum-cum.ensures c.from-3.ensures c.rate_offset.ensures.value
+    streams-are c.args.r c.args.bytes whole _ c.write_pairs.new.front _ c.write_pairs.new.side _ _ e c.put_side-p.ensures.kept _ _ _
+    c.write_pairs.result c.from-3.ensures c.rate_offset.ensures.value
     c.from-4.ensures c.write_pairs.ensures

@@ -1,12 +1,11 @@
 -- `writer_pair::write_pair` meets its contract. The escapes with the last symbol, then both signs. Assumes nothing.
 use native.Mathlib.Omega.{arith}
-use Rattle.coder_tables.specs.Layout.{by_level}
+use Rattle.coder_tables.specs.Tables.{look_table, spectrum_table}
 use Rattle.writer_pair.proofs.Walking.{size_is, size_small, sign-puts, sign_at, sign-room, pair-sent, pair-sends, pair-context}
 use Rattle.writer_pair.proofs.write_pair.Goals as goal
 
 pub write_levels-w-requires : goal.write_levels-w-requires
 write_levels-w-requires c = let a = c.args in record {
-  pair_tables = c.requires.pair_tables;
   base_bound = c.requires.base_bound;
   x_bound = size_small a.u c.requires.u_bound c.unsigned_abs.ensures.value;
   y_bound = size_small a.v c.requires.v_bound c.unsigned_abs-2.ensures.value;
@@ -32,8 +31,6 @@ write_sign-p3-requires c = let m = c.requires.sends.written in
 
 pub returns : goal.returns
 returns c = let a = c.args in
-    let look = by_level a.look.now in
-    let cum = a.cum.now in
     let hu = c.requires.u_bound in
     let hv = c.requires.v_bound in
     let isx = size_is a.u hu c.unsigned_abs.ensures.value in
@@ -44,7 +41,7 @@ returns c = let a = c.args in
           c.write_levels-w.ensures.level_value c.write_levels-w.ensures.symbol_value
           c.next_context.ensures.value;
       context_bound = c.next_context.ensures.upper_bound;
-      sent = pair-sent look cum a.base _ _ a.u a.v isx isy a.front.now _ a.side.now _ _ _ a.c _ a.p _ _ _
+      sent = pair-sent look_table spectrum_table a.base _ _ a.u a.v isx isy a.front.now _ a.side.now _ _ _ a.c _ a.p _ _ _
           c.write_levels-w.ensures.sent (sign-puts a.u hu c.write_sign-p2.ensures.puts) at2
           (sign-puts a.v hv c.write_sign-p3.ensures.puts) at3;
       sends_2 = pair-sends a.u a.v a.p.at c.write_sign-p2.result.at c.write_levels-w.ensures.sends_2 c.write_sign-p3.ensures.fact_2 at2

@@ -14,7 +14,6 @@ write_pair-w-requires c =
     let xs = c.args.lines.now in
     let k = c.loop-k.k in
     record {
-      pair_tables = c.requires.pair_tables;
       base_bound = c.base_of-base.ensures.upper_bound;
       u_bound = size_small (line_at xs (2 * k)) (c.requires.small (2 * k)) refl;
       v_bound = size_small (line_at xs (2 * k + 1)) (c.requires.small (2 * k + 1)) refl;

@@ -4,6 +4,8 @@ use Prim.Native.Nat.{◌<◌}
 use native.Mathlib.Omega.{arith}
 use lib.ListN.{get_or}
 use Rattle.std.proofs.lemmas.List.{length-take-le, get_or-take}
+use Rattle.coder_tables.specs.Tables.{coefficient_table}
+use Rattle.coder_tables.proofs.Rules.{coefficient-row}
 use Rattle.writer_laws.specs.Stream.{whole_of}
 use Rattle.writer_stream.proofs.Placing.{part_of}
 use Rattle.writer_tns.proofs.TnsSteps.{coefficients-done, coefficients-more}
@@ -16,7 +18,7 @@ encode-c-requires-clause-part c =
     let i : k < a.n = omega (arith, length-take-le a.n a.l.now (omega arith)) in
     let v = c.from.ensures ∙ get_or-take a.n a.l.now k 0 i in
     let s = c.requires.sendable k i in
-    part_of _ (c.requires.coefficient_rows k (omega arith)) (omega arith)
+    rw c.tns_coefficients-rows.ensures (part_of _ (coefficient-row k (omega arith)) (omega arith))
 
 pub loop-k-preserved : goal.loop-k-preserved
 loop-k-preserved c =
@@ -25,13 +27,14 @@ loop-k-preserved c =
     let i : l.k < a.n = omega (arith, length-take-le a.n a.l.now (omega arith)) in
     let v : c.from.result ≡ get_or a.l.now l.k 0 = c.from.ensures ∙ get_or-take a.n a.l.now l.k 0 i in
     let e = c.encode-c.ensures in
+    let d = rw c.tns_coefficients-rows.ensures at e.result_after in
     let at = e.one_more.at in
     let taken = e.one_more.taken in
     record {
       flows = e.flows_2;
       at = omega arith;
       taken = omega arith;
-      sent = coefficients-more a.rows.now a.l.now a.n l.k _ _ _ i v e.result_after ∙ l.invariant.sent;
+      sent = coefficients-more coefficient_table a.l.now a.n l.k _ _ _ i v d ∙ l.invariant.sent;
     }
 
 pub returns-clause-result_after : goal.returns-clause-result_after
@@ -39,4 +42,4 @@ returns-clause-result_after c =
     let a = c.args in
     let l = c.loop-k in
     let t = length-take-le a.n a.l.now (omega arith) in
-    sym (coefficients-done a.rows.now a.l.now a.n l.k (whole_of l.front l.c) (omega arith)) ∙ l.invariant.sent
+    sym (coefficients-done coefficient_table a.l.now a.n l.k (whole_of l.front l.c) (omega arith)) ∙ l.invariant.sent
