@@ -5,13 +5,11 @@
 ghost use Rattle.std.specs.Prelude.{length};
 ghost use Rattle.day_page.specs.Page.{Inside};
 
-use record_listing::Listed;
-
 // Where the report ends in its buffer, and where the listing starts in its own.
 #[derive(Clone, Copy)]
-pub enum Page {
-    Texts(usize, usize),
-    NoTexts,
+pub struct Page {
+    pub end: usize,
+    pub start: usize,
 }
 
 // Walks the sample into a new record of form 2, and puts the report at the start of one buffer and the listing at the end of the other.
@@ -21,20 +19,13 @@ pub fn fill(
     buffer: &mut [u8],
     text: &mut [u8],
     lines: &mut [u8],
-) -> Page
+) -> Option<Page>
     ensures { Inside result (length text.old) (length lines.old) }
 {
     let t = day_way::walk(sample, buffer, 5);
     let end = day_report::report(text, frames, buffer.len(), t);
-    let used = t.used;
-    // Never taken: an entry is stored only where there is room for it.
-    if buffer.len() < used {
-        return Page::NoTexts;
-    }
-    let listed = record_listing::list(&buffer[..used], lines);
-    match listed {
-        Listed::From(at) => Page::Texts(end, at),
-        // Never taken: the buffer has the room that every listing fits.
-        Listed::NoRoom => Page::NoTexts,
-    }
+    // Never none: an entry is stored only where there is room for it, and the buffer has the room that every listing fits.
+    let record = buffer.get(..t.used)?;
+    let start = record_listing::list(record, lines)?;
+    Some(Page { end, start })
 }
