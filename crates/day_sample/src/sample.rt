@@ -58,6 +58,7 @@ pub fn frame_at(bytes: &[u8], at: usize) -> Result<Piece, SampleError>
 pub fn survey(bytes: &[u8]) -> Result<usize, SampleError> {
     let mut at: usize = 0;
     let mut count: usize = 0;
+    // No `for`: each frame says where the next begins.
     while at < bytes.len() {
         let piece = frame_at(bytes, at)?;
         at = piece.end;

@@ -27,6 +27,7 @@ pub fn walk(bytes: &[u8], buffer: &mut [u8], used: usize) -> Tally {
     let mut t = Tally::new(used);
     let mut at: usize = 0;
     let mut place: usize = 0;
+    // No `for`: each frame says where the next begins.
     while at < bytes.len() {
         let Ok(piece) = sample::frame_at(bytes, at) else {
             return t;

@@ -55,6 +55,7 @@ fn find(cum: &[u16], row: usize, t: usize, low: usize, last: usize) -> Found
     let mut v = 0;
     let mut below = 0;
     let mut above = t * usize::from(cum[row + 1]);
+    // No `for` over the row: it would test the row's end at each step, and the row ends above low.
     while above <= low {
         prove!(v < last);
         v = v + 1;
@@ -68,7 +69,7 @@ fn find(cum: &[u16], row: usize, t: usize, low: usize, last: usize) -> Found
     }
 }
 
-// Bytes are taken until the range is wide again.
+// Bytes are taken until the range is wide again, at most two: a `while` as the clause has it, since no count says when.
 fn refill(s: &[u8], v: usize, c: Coder) -> Result<Step<usize, Coder>, Cause>
     requires sized { Sized s.now }
     requires narrow { Narrow s.now c }

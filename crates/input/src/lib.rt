@@ -13,6 +13,7 @@ pub fn read_all<R: Read>(from: &mut R, buffer: &mut [u8]) -> io::Result<usize>
     ensures { InputFits result (length buffer.old) }
 {
     let mut done = 0;
+    // No `for`: each read says how much it took.
     while done < buffer.len() {
         let more = from.read(&mut buffer[done..])?;
         if more == 0 {

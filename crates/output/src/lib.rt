@@ -13,6 +13,7 @@ pub fn write_all<W: Write>(to: &mut W, text: &[u8]) -> io::Result<()>
     ensures { OnOk result (Appends (W.contents to.old) (W.contents to.new) text.now) }
 {
     let mut rest = text;
+    // No `for`: each write says how much it took.
     while !rest.is_empty() {
         let more = to.write(rest)?;
         if more == 0 {

@@ -34,6 +34,7 @@ fn put_digits(out: &mut [u8], end: usize, n: usize) -> usize
 {
     let mut at = end;
     let mut rest = n;
+    // No `for`: what is left of the number ends it, and no count.
     while 0 < rest {
         at -= 1;
         out[at] = digit(rest % 10);

@@ -81,6 +81,7 @@ fn put_frame(out: &mut [u8], at: usize, frame: &[u8])
 {
     let last = frame.len() - 16;
     let mut i = 0;
+    // No `chunks_exact`: what is left is put from where this ends.
     while i + 16 <= last {
         put_part(out, at + i, &frame[i..i + 32]);
         i += 32;

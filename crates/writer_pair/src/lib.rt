@@ -46,6 +46,7 @@ fn write_levels(
     let mut level = 0;
     let mut c = first;
     let mut p = start;
+    // No `for`: the two values end the escapes, and no count.
     while 4 <= a || 4 <= b {
         c = encode(cum, row_of(base, level), 16, c, front);
         p = put(a % 2 + 2 * (b % 2), 2, p, side);

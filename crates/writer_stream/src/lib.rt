@@ -30,6 +30,7 @@ pub fn carry(front: &mut [u8], n: usize)
     requires n_bound { front_of front.old n + 1 < 2 ^ (8 * n) }
     ensures { Carried n front.old front.new }
 {
+    // No `for`: the first byte below 255 ends it, and there is one.
     let mut j = n - 1;
     while front[j] == 255 {
         front[j] = 0;
@@ -38,7 +39,7 @@ pub fn carry(front: &mut [u8], n: usize)
     front[j] = front[j] + 1;
 }
 
-// Bytes are put out until the range is wide again.
+// Bytes are put out until the range is wide again: a `while` as the clause has it, since no count says when.
 fn widen(c: Coder, front: &mut [u8]) -> Coder
     requires streams { Streams 64 front.old c }
     requires at_bound { c.at ≤ 512 }
