@@ -35,7 +35,8 @@ fn number2(s: &[u8], at: usize) -> usize
     ensures value { result ≡ number s.now at 2 }
     ensures upper_bound { result < 65536 }
 {
-    usize::from(u16::from_be_bytes([s[at], s[at + 1]]))
+    // `u16::from_be_bytes` was tried: the compiler then compares in 16 bits, and the walk is slower.
+    usize::from(s[at]) * 256 + usize::from(s[at + 1])
 }
 
 // The four bytes from `at` as a number.
