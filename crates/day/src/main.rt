@@ -4,16 +4,12 @@
 // standard error.
 #![tactic(auto)]
 
-use day_page::Page;
-use day_sample::sample;
-use day_sample::sample::Surveyed;
-use input::Input;
-use record::Made;
+use day_sample::sample::{SampleError, survey};
+use std::io;
 
 fn main(rt: HostRuntime) {
     let mut bytes = [0u8; 65537];
-    let input = input::read_all(&mut rt.stdin(), &mut bytes);
-    let Input::Bytes(n) = input else {
+    let Ok(n) = input::read_all(&mut rt.stdin(), &mut bytes) else {
         say(&rt, b"day: the sample cannot be read\n");
         return;
     };
@@ -22,23 +18,22 @@ fn main(rt: HostRuntime) {
         return;
     }
     let sample = &bytes[..n];
-    let surveyed = sample::survey(sample);
-    match surveyed {
-        Surveyed::Frames(frames) => run(&rt, sample, frames),
-        Surveyed::CutShort => say(&rt, b"day: the sample is cut short\n"),
-        Surveyed::UnknownRate => {
+    match survey(sample) {
+        Ok(frames) => run(&rt, sample, frames),
+        Err(SampleError::CutShort) => say(&rt, b"day: the sample is cut short\n"),
+        Err(SampleError::UnknownRate) => {
             say(
                 &rt,
                 b"day: the sample has a rate that is none of 8, 16, 24, 32 and 48 kHz\n",
             )
         }
-        Surveyed::UnknownDuration => {
+        Err(SampleError::UnknownDuration) => {
             say(
                 &rt,
                 b"day: the sample has a duration that is none of 2.5, 5, 7.5 and 10 ms\n",
             )
         }
-        Surveyed::BadLength => {
+        Err(SampleError::BadLength) => {
             say(
                 &rt,
                 b"day: the sample has a frame that is not of 20 to 400 bytes\n",
@@ -49,7 +44,7 @@ fn main(rt: HostRuntime) {
 
 // Nothing is left to be done where standard error cannot be written.
 fn say(rt: &HostRuntime, text: &[u8]) {
-    output::write_all(&mut rt.stderr(), text);
+    let _ = output::write_all(&mut rt.stderr(), text);
 }
 
 // The walk with a new record of form 2, then what is written.
@@ -57,18 +52,17 @@ fn run(rt: &HostRuntime, sample: &[u8], frames: usize) {
     let mut buffer = [0u8; 10240];
     let mut text = [0u8; 8192];
     let mut lines = [0u8; 65536];
-    let made = record::new(2, &mut buffer);
-    let Made::Empty = made else {
+    if record::new(2, &mut buffer).is_err() {
         say(rt, b"day: there is no room for a record\n");
         return;
-    };
-    if show(rt, sample, frames, &mut buffer, &mut text, &mut lines) {
-        return;
     }
-    say(rt, b"day: standard output cannot be written\n");
+    let shown = show(rt, sample, frames, &mut buffer, &mut text, &mut lines);
+    if shown.is_err() {
+        say(rt, b"day: standard output cannot be written\n");
+    }
 }
 
-// Walks, and writes the report and the record's listing; answers whether both were written.
+// Walks, and writes the report and the record's listing.
 fn show(
     rt: &HostRuntime,
     sample: &[u8],
@@ -76,13 +70,10 @@ fn show(
     buffer: &mut [u8],
     text: &mut [u8],
     lines: &mut [u8],
-) -> bool {
-    let page = day_page::fill(sample, frames, buffer, text, lines);
-    let Page::Texts(end, at) = page else {
-        return false;
+) -> io::Result<()> {
+    let Some(page) = day_page::fill(sample, frames, buffer, text, lines) else {
+        return Err(io::ErrorKind::Other.into());
     };
-    if output::write_all(&mut rt.stdout(), &text[..end]) {
-        return output::write_all(&mut rt.stdout(), &lines[at..]);
-    }
-    false
+    output::write_all(&mut rt.stdout(), &text[..page.end])?;
+    output::write_all(&mut rt.stdout(), &lines[page.start..])
 }
