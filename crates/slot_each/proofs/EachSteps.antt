@@ -122,7 +122,8 @@ entry_here l i v w n e h k = get_or-set_same l i v 0 (omega arith) ∙ k
 
 module _ (size mode i at e : ℕ) (slots : List ℕ) (old new : Five) (so_far : EachTo size mode i slots old new)
     (part : PlacePart (frame_size size mode) i at e (length new.numbers)) (last : List ℕ) (last-long : length last ≡ frame_size size mode)
-    (answer : Told) (number : ℕ) (told : Reception) (told_is : Tells number told answer) (slot place : List ℕ) (slot_is : slot ≡ place_at size i slots)
+    (answer : Told) (number : ℕ) (told : Reception) (told_is : Tells number told answer)
+    (slot place : List ℕ) (slot_is : slot ≡ place_at size i slots)
     (place_is : place ≡ place_at (frame_size size mode) i new.frames) (unprotects : Unprotects size mode slot place last answer) where
   abbrev after : Five
   after = turned new i number told (put_mid at (e - at) new.frames last)

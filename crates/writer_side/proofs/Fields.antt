@@ -92,7 +92,8 @@ flags-puts m b f n x₀ x₁ x₂ s₀ s₁ s₂ s₃ c₀ c₁ c₂ c₃ d e₀
 
 -- its first fact is the premise, by which `grind` finds it
 pub shape_fit : (q : Shape) → list_fits shape_fields (shape_values q) ≡ true
-    → (list_fits shape_fields (shape_values q) ≡ true) × (q.low < 32) × (q.high < 32) × (q.mode < 2) × (q.gain < 2 ^ (1 + q.mode)) × (q.sign < 2) × (q.joint < 2 ^ (25 - q.mode))
+    → (list_fits shape_fields (shape_values q) ≡ true) × (q.low < 32) × (q.high < 32) × (q.mode < 2) × (q.gain < 2 ^ (1 + q.mode))
+    × (q.sign < 2) × (q.joint < 2 ^ (25 - q.mode))
 shape_fit q e =
     let a = first_fits _ _ _ _ _ e in
     let b = first_fits _ _ _ _ _ a.1 in
