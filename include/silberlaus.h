@@ -153,7 +153,7 @@ silberlaus_unprotected silberlaus_unprotect(size_t slot_size, uint32_t mode,
                                             const uint8_t *slot, size_t slot_len, uint8_t *frame, size_t frame_len);
 
 /* Unprotects many received slots of one size and mode, each exactly as silberlaus_unprotect does. A slot costs less than
-   there, because tables and room are made once for all of them; the whole is linear in the number of slots.
+   there, because the room is made once for all of them; the whole is linear in the number of slots.
    `slots` has the slots one after the other, so a whole multiple of slot_size, and is only read; n is their number, which
    may be 0. `numbers`, `requests`, `semi_octets` and `bits` have exactly n entries each, and `frames` has exactly
    n x silberlaus_frame_size(slot_size, mode) bytes: a place for each slot's frame, in the order of the slots.

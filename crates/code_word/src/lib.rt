@@ -15,7 +15,7 @@ ghost use Rattle.code_word.specs.Make.{Makes};
 ghost use Rattle.code_word.specs.Correct.{Corrects, CorrectsEach};
 
 pub use code_word_answers::Correction;
-use refusals::Refusal;
+pub use refusals::Refusal;
 
 // The word's check semi-octets in front of its data (A.43 to A.45), in mode 2, 3 or 4.
 pub fn make(word: &mut [u8], mode: u32) -> Result<(), Refusal>

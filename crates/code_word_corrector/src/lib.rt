@@ -1,7 +1,6 @@
 // How words are corrected. A word whose syndromes are 0 is left at once; where they are those of one error, it is taken off; else the
 // error word of `code_word_locator` is. The word with the errors taken off is tested, and put back where it is not valid.
-// Inner: `code_word` stands over it. It asks for the table of `code_word_syndromes`, for t from 1 to 3 and for words of at most 15
-// semi-octets.
+// Inner: `code_word` and `slot_repair` stand over it. It asks for t from 1 to 3 and for words of at most 15 semi-octets.
 #![tactic(auto)]
 
 ghost use Rattle.std.specs.Prelude.{cond, ◌≡◌, ◌+◌, ◌/◌, ◌%◌, ◌≤◌, ltb, length, MatchOption};

@@ -1,6 +1,5 @@
 // Errors taken off a word: all that an error word has, or one where the syndromes are those of one; and whether what is left is valid and
-// near enough. Inner: `code_word_corrector` stands over it. It asks for the table of `code_word_syndromes`, for t from 1 to 3 and for words
-// of at most 15 semi-octets.
+// near enough. Inner: `code_word_corrector` stands over it. It asks for t from 1 to 3 and for words of at most 15 semi-octets.
 #![tactic(auto)]
 
 ghost use Rattle.std.specs.Prelude.{◌≡◌, ◌≢◌, ◌+◌, ◌≤◌, ◌<◌, length, MatchOption};

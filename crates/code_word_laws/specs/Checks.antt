@@ -1,4 +1,4 @@
--- The check semi-octets as a sum of what each data semi-octet adds to them, from a table that is made once for a mode and lent. A number
+-- The check semi-octets as a sum of what each data semi-octet adds to them, from a table for each mode. A number
 -- holds the d - 1 check semi-octets as digits to the base 16, the highest power in the lowest digit. proofs/Checks.antt shows that the
 -- digits of the sum over the data, in front of them, are the code word.
 -- Assumes nothing.

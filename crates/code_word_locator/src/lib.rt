@@ -1,6 +1,6 @@
 // The error locator and the error word: from a word's syndromes the recurrence by which the sums of at most t errors go on, and the errors
-// that these sums are transformed back to. Inner: `code_word_corrector` stands over it. It asks for the table that `code_word_syndromes`
-// gives, for t from 1 to 3 and for semi-octets.
+// that these sums are transformed back to. Inner: `code_word_corrector` stands over it. It asks for t from 1 to 3
+// and for semi-octets.
 #![tactic(auto)]
 
 ghost use Rattle.std.specs.Prelude.{◌≡◌, [], ◌∷◌, ◌<◌};

@@ -1,7 +1,6 @@
 // The corrector's table, the field's product and both counts of an error from it, and a word's syndromes: its values at 2^0 .. 2^14 are
 // read from the table and added up, packed in one number; those at 2^1 .. 2^(2 t) are those of its errors alone.
-// Inner: `code_word_locator`, `code_word_corrector` and `code_word` stand over it. It asks for the table that `table` gives, for t from 1
-// to 3 and for semi-octets.
+// Inner: `code_word_locator`, `code_word_errors` and `code_word_corrector` stand over it. It asks for t from 1 to 3 and for semi-octets.
 #![tactic(auto)]
 
 ghost use Rattle.std.specs.Prelude.{◌≡◌, ◌+◌, ◌%◌, ◌^◌, ◌≤◌, ◌<◌, length};

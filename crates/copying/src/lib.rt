@@ -1,6 +1,6 @@
 // A slice copied into another of its length. The library's `copy_from_slice` calls memmove, and include/silberlaus.h promises that the
 // archive wants memcpy and memset alone; this becomes a memcpy, or none.
-// Inner: the crates of `slot`, `frame` and `record` stand over it. It asks for two slices of one length.
+// Inner: `slot_ordering`, `slot_gathering` and `frame_finish` stand over it. It asks for two slices of one length.
 #![tactic(auto)]
 
 ghost use Rattle.std.specs.Prelude.{◌≡◌, length};

@@ -76,7 +76,7 @@ const LOGARITHMS: u64 = 0xcbd679e3a582410f;
 // Digit n is the power n of x; the fifteenth is 1 again.
 const POWERS: u64 = 0x19dfe7a5bc638421;
 
-// Digit i of a table of sixteen, by its low four bits. A packed number is shifted, where an array is built anew at each call.
+// Digit i of a table of sixteen, by its low four bits. A packed number is shifted: the proofs compute the products by its digits.
 fn digit(table: u64, i: u8) -> u8
     ensures value { result ≡ table / 2 ^ (4 * (i % 16)) % 16 }
     ensures upper_bound { result ≤ 15 }

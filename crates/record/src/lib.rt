@@ -16,7 +16,7 @@ pub use record_bytes::Located;
 use record_bytes::{entry_before, walk};
 use record_forms::{Form, in_range};
 use record_putting::{put_end, put_entry};
-use refusals::Refusal;
+pub use refusals::Refusal;
 
 // Writes a record of no entries at the start of the buffer.
 pub fn new(form: u32, buffer: &mut [u8]) -> Result<(), Refusal>

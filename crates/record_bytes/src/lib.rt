@@ -1,7 +1,7 @@
 // The bytes of a session record of either form: the walk over it from the end back, one step an entry, and bytes put into a buffer. It
 // stands over `record_forms`. specs/ says which bytes a list of entries is (Layout) and how they are read (Reading); proofs/Inverse.antt
 // shows that reading finds exactly that list.
-// Inner: `record_answers`, `record` and what stands over them. It asks for places inside the bytes; `walk` asks nothing.
+// Inner: `record_putting`, `record` and what stands over them. It asks for places inside the bytes; `walk` asks nothing.
 #![tactic(auto)]
 
 ghost use Rattle.std.specs.Prelude.{◌≡◌, cond, ◌+◌, ◌≤◌, ◌<◌, length, eqb};

@@ -14,7 +14,7 @@ ghost use Rattle.record_moving.specs.Moving.{moved_entries, move_answer, move_bu
 use record_bytes::{Located, entry_before, walk};
 use record_forms::Form;
 use record_putting::{put_end, put_entry};
-use refusals::Refusal;
+pub use refusals::Refusal;
 
 // The used length of a record of n entries in the other form.
 fn length_in(from: Form, to: Form, used: usize, n: usize) -> usize

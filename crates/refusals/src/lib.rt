@@ -1,5 +1,6 @@
 // Why something is refused: the table of refusals as an enum, with the causes of a bit error, and their numbers (specs/Numbers.antt).
-// Every crate for callers answers with a `Result` whose error this is, and `numbered` is the number that C is told. It stands over nothing.
+// What a crate for callers can refuse is answered by a `Result` whose error this is, and `numbered` is the number that C is told.
+// It stands over nothing; the crates for callers hand `Refusal` on.
 #![tactic(auto)]
 
 ghost use Rattle.std.specs.Prelude.{◌≡◌, ◌≤◌};

@@ -1,6 +1,6 @@
 -- Document 01's "Small sums to prove together": one statement over the definitions of every layer. proofs/Sums.antt proves it. Assumes
 -- nothing.
-use Rattle.std.specs.Prelude.{◌≡◌, List, [], ◌∷◌, ℕ, suc, ◌-◌, ◌^◌, ◌≤◌}
+use Rattle.std.specs.Prelude.{◌≡◌, Some, List, [], ◌∷◌, ℕ, suc, ◌-◌, ◌^◌, ◌≤◌}
 use Rattle.gf16.specs.Field.{product}
 use Rattle.code_word_laws.specs.Polynomial.{generator}
 use Rattle.slot_laws.specs.Sizes.{words, word_length}
@@ -8,11 +8,11 @@ use Rattle.frame_bits.specs.Read.{value, cause}
 use Rattle.frame_settings.specs.Settings.{setting_of}
 use Rattle.frame_bits.specs.Bits.{read_bit, read_bits}
 use Rattle.frame_side.specs.Side.{head_of}
-use Rattle.frame_pair.specs.Pair.{Streams, plane_of, last_of, context_of, signed_of, pair_of}
+use Rattle.frame_pair.specs.declared.Streams.{Streams}
+use Rattle.frame_pair.specs.Pair.{plane_of, last_of, context_of, signed_of, pair_of}
 use Rattle.frame_pair.specs.declared.Last.{Last}
 use Rattle.frame_coder.specs.declared.Coder.{Coder}
 use Rattle.frame_settings.specs.declared.Setting.{Setting}
-use Rattle.frame_settings.specs.declared.Settled.TheVariants as settled
 use Rattle.record_forms.specs.declared.Form.TheVariants as form
 use Rattle.record_bytes.specs.Layout.{record_bytes}
 
@@ -46,7 +46,7 @@ pub record SmallSums (at24 at48 : Setting) : Type 0 where
       → last_of s look cum lsb base 14 0 0 0 c p ≡ value last_set k
       → pair_of s look cum lsb base context c p ≡ signed_of s context 32767 32767 last_set k.coder k.side
   -- the settings of 24 and 48 kHz at 10 ms
-  pub rates : (setting_of 24 40 ≡ settled.Known at24) × (setting_of 48 40 ≡ settled.Known at48)
+  pub rates : (setting_of 24 40 ≡ Some at24) × (setting_of 48 40 ≡ Some at48)
   -- "at 48 kHz field 199 gives line 400"
   pub line_400 : (s : List ℕ) (b m g : ℕ) → b ≤ 4
       → read_bits s 0 3 ≡ value b 3 → read_bits s 3 8 ≡ value 199 11 → read_bits s 11 1 ≡ value m 12 → read_bits s 12 8 ≡ value g 20

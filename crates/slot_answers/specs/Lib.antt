@@ -1,2 +1,2 @@
--- The numbers and values of what protecting and unprotecting a slot answer.
+-- The number and values of what unprotecting a slot answers.
 pub mod Answers

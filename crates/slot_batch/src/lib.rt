@@ -9,7 +9,7 @@ ghost use Rattle.laws.specs.Decides.{Decides};
 ghost use Rattle.slot_laws.specs.Sizes.{InRange};
 ghost use Rattle.slot_each.specs.Each.{five, Fitting, UnprotectsEach};
 
-use refusals::Refusal;
+pub use refusals::Refusal;
 
 // Whether the six lengths fit.
 fn fits(

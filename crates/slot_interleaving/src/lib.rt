@@ -1,5 +1,5 @@
 // Words to their places in the slot (A.38, A.46 to A.52): the mode signature, the interleaving, the bytes.
-// Inner: the crates of `slot` that order, receive and write stand over it. It asks for a size and a mode in range and for buffers of their
+// Inner: the crates of `slot` that receive and write stand over it. It asks for a size and a mode in range and for buffers of their
 // length.
 #![tactic(auto)]
 

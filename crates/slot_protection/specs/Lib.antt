@@ -1,2 +1,2 @@
--- What the numbers of `slot_answers` promise of protecting.
+-- What the numbers of `refusals` promise of protecting.
 pub mod Protect

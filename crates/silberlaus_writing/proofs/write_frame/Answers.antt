@@ -1,4 +1,4 @@
--- `silberlaus_writing::write_frame` meets its contract: that of `writer::write`, with the number in place of the enum. Assumes nothing.
+-- `silberlaus_writing::write_frame` meets its contract: that of `writer::write`, with the number in place of the result. Assumes nothing.
 use Rattle.silberlaus_writing.proofs.Told.{told-by}
 use Rattle.silberlaus_writing.proofs.write_frame.Goals as goal
 
