@@ -14,5 +14,9 @@ pub struct Reception {
 
 impl Reception {
     // What is told of a refused slot beside the refusal's number.
-    pub const NONE: Reception = Reception { request: 0, count: 0, bits: 0 };
+    pub const NONE: Reception = Reception {
+        request: 0,
+        count: 0,
+        bits: 0,
+    };
 }
