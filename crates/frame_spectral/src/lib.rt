@@ -25,7 +25,9 @@ pub struct SpectralRead {
     pub next: usize,
 }
 
-// The pairs, the bits left, and after the last check what goes to the lent buffers.
+// The pairs, the bits left, and after the last check what goes to the lent buffers. Apart from its caller, so that the loop over the pairs
+// has the registers for itself.
+#[inline(never)]
 pub fn read_spectral(
     r: Setting,
     h: Head,
