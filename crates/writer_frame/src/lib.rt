@@ -17,7 +17,7 @@ use writer_side::put_side;
 use writer_steps::{Cursor, PairsSent};
 use writer_tns::write_filter;
 
-// Both streams up to the last pair, into room of zeros. Apart from its caller, so that the loop over the pairs has the registers for itself.
+// Both streams up to the last pair, into room of zeros. Apart from its caller, so that the loop over the pairs has all the registers.
 #[inline(never)]
 fn write_streams(
     r: Setting,
