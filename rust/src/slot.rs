@@ -99,7 +99,7 @@ pub fn unprotect(mode: u32, slot: &[u8], frame: &mut [u8]) -> Result<Unprotected
 }
 
 /// Unprotects many received slots of one size and mode, each exactly as [`unprotect`] does. A slot costs less than there,
-/// because tables and room are made once for all of them; the whole is linear in the number of slots.
+/// because the room is made once for all of them; the whole is linear in the number of slots.
 ///
 /// `slots` has the slots one after the other; there may be none. `numbers`, `requests`, `semi_octets` and `bits` have exactly
 /// one entry for each slot, and `frames` has exactly [`frame_size`]`(slot_size, mode)` bytes for each, in the order of the

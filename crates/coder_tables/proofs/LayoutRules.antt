@@ -1,23 +1,41 @@
--- The code's order of the lookups: where the standard's entries stand in it, and the order as four lists in turn. Assumes nothing.
+-- The two orders of the lookups: an entry of each, the one undoes the other, and the code's order as four lists in turn. Assumes nothing.
 use mathlib.Core.Path.{◌≡◌, refl, sym, ap, ap₂, ◌∙◌}
 use mathlib.Core.List.{List, [], ◌∷◌}
 use Prim.Native.Nat.{ℕ, zero, suc, ◌+◌, ◌*◌, ◌/◌, ◌%◌, ◌<◌}
 use native.Mathlib.Omega.{arith}
-use lib.ListN.{get_or, drop}
+use lib.ListN.{length, get_or, drop}
 use lib.Seq.{get_or-drop}
 use Rattle.laws.specs.Tab.{tab}
-use Rattle.laws.proofs.Tab.{get_or-tab}
-use Rattle.coder_tables.specs.Layout.{by_context}
+use Rattle.laws.proofs.Tab.{length-tab, get_or-tab, tab-is}
+use Rattle.coder_tables.specs.Layout.{by_context, by_level}
+
+pub length-by-context : (t : List ℕ) → length (by_context t) ≡ 4096
+unfolding by_context
+length-by-context t = length-tab (λ p. get_or t (1024 * (p % 4) + p / 4) 0) 4096
 
 -- what the code's order has at place p
 entry : (t : List ℕ) (base l p : ℕ) → p ≡ 4 * base + l → l < 4 → get_or t (1024 * (p % 4) + p / 4) 0 ≡ get_or t (1024 * l + base) 0
 entry t base l p h k = let e : 1024 * (p % 4) + p / 4 ≡ 1024 * l + base = omega arith in ap (λ (i : ℕ). get_or t i 0) e
 
--- a context's level
+-- a context's level, by either order's place
 pub by-context-at : (t : List ℕ) (base l : ℕ) → base < 1024 → l < 4 → get_or (by_context t) (4 * base + l) 0 ≡ get_or t (1024 * l + base) 0
 unfolding by_context
 by-context-at t base l h k =
     get_or-tab (λ p. get_or t (1024 * (p % 4) + p / 4) 0) 4096 (4 * base + l) (omega arith) ∙ entry t base l (4 * base + l) refl k
+
+pub by-level-at : (t : List ℕ) (base l : ℕ) → base < 1024 → l < 4 → get_or (by_level t) (base + 1024 * l) 0 ≡ get_or t (4 * base + l) 0
+unfolding by_level
+by-level-at t base l h k =
+    let e : 4 * ((base + 1024 * l) % 1024) + (base + 1024 * l) / 1024 ≡ 4 * base + l = omega arith in
+    get_or-tab (λ i. get_or t (4 * (i % 1024) + i / 1024) 0) 4096 (base + 1024 * l) (omega arith) ∙ ap (λ (i : ℕ). get_or t i 0) e
+
+-- the standard's order is found again
+pub by-level-back : (t : List ℕ) → length t ≡ 4096 → by_level (by_context t) ≡ t
+unfolding by_level
+by-level-back t h =
+    tab-is (λ i. get_or (by_context t) (4 * (i % 1024) + i / 1024) 0) 4096 t h
+    (λ i p. let e : 1024 * (i / 1024) + i % 1024 ≡ i = omega arith in
+    by-context-at t (i % 1024) (i / 1024) (omega arith) (omega arith) ∙ ap (λ (j : ℕ). get_or t j 0) e)
 
 -- ---- the code's order as four lists in turn: no entry reads the table from its start
 

@@ -1,9 +1,10 @@
 -- The arithmetic stream of a frame (5.4.2.7): what each return of `read_arithmetic` says, and the answer with both buffers as a judgement
 -- asks.
 -- Assumes nothing.
-use mathlib.Core.Path.{◌≡◌, refl, sym, ap}
+use mathlib.Core.Path.{◌≡◌, refl, sym, ap, ◌∙◌}
 use mathlib.Core.List.{List}
-use Prim.Native.Nat.{ℕ}
+use Prim.Native.Nat.{ℕ, ◌≤◌, ◌<◌}
+use native.Mathlib.Omega.{arith}
 use lib.IntN.{ℤ}
 use Rattle.coder_tables.specs.Tables.{order_table, coefficient_table}
 use Rattle.frame_bits.specs.Read.{Read, value, cause}
@@ -13,6 +14,7 @@ use Rattle.frame_spectral.specs.Spectral.{Spectral, spectral_from}
 use Rattle.frame_arithmetic.specs.Answers.{Whole, arithmetic_from}
 use Rattle.frame_arithmetic.specs.Answers.{Judged, refused, judged_read, given_of, Answers}
 use Rattle.frame_answers.specs.Answers.{Given, refused_with, told}
+use Rattle.frame_arithmetic.specs.Sound.{Bounded}
 use Rattle.frame_settings.specs.declared.Setting.{Setting}
 use Rattle.frame_side.specs.declared.Side.{Side}
 use Rattle.frame_coder.specs.declared.Coder.{Coder}
@@ -63,6 +65,34 @@ pub answers-refused : (g : Given) (j : Judged) (n k : ℕ) (spectrum : List ℤ)
     → Answers g j spectrum spectrum residual residual
 unfolding given_of
 answers-refused g j n k spectrum residual e f = rw (e, f) (record { given = refl; lines = refl; bits = refl })
+
+abbrev pub Answered : ℕ → Result Reading Refusal → Judged → List ℤ → List ℤ → List ℕ → List ℕ → Type 0
+Answered most o j spectrum spectrum' residual residual' =
+    Answers (told o) j spectrum spectrum' residual residual' × Bounded most (told o) spectrum'
+
+-- a refusal is bounded by its cause alone
+pub refused-bounded : (most : ℕ) (g : Given) (n k : ℕ) (lines : List ℤ) → g ≡ refused_with n k → 1 ≤ n → (n ≡ 5 → 1 ≤ k) → k ≤ most
+    → Bounded most g lines
+refused-bounded most g n k lines e h a b =
+    rw e (record { symbols = λ z. absurd (omega arith); values = λ z. absurd (omega arith); cause_from = a; cause_to = b })
+
+-- refusal a is what a judgement with number n and without a cause asks for
+abbrev pub Refuses : Refusal → ℕ → Type 0
+Refuses a n = (most : ℕ) (o : Result Reading Refusal) (j : Judged) (spectrum : List ℤ) (residual : List ℕ) → o ≡ Err a → j ≡ refused n 0
+    → Answered most o j spectrum spectrum residual residual
+
+refuses : (a : Refusal) (n : ℕ) → told (Err a) ≡ refused_with n 0 → 1 ≤ n → n < 5 → Refuses a n
+refuses a n i h k most o j spectrum residual e f =
+    let g : told o ≡ refused_with n 0 = ap told e ∙ i in (
+      answers-refused (told o) j n 0 spectrum residual g f,
+      refused-bounded most (told o) n 0 spectrum g h (λ z. absurd (omega (arith, z, k))) (omega arith),
+    )
+
+pub answers-setting : Refuses refusal.Setting 1
+answers-setting = refuses refusal.Setting 1 refl (omega arith) (omega arith)
+
+pub answers-length : Refuses refusal.Length 2
+answers-length = refuses refusal.Length 2 refl (omega arith) (omega arith)
 
 -- a bit error: e is what the cause `why` was turned into
 pub answers-cause : (o : Result Reading Refusal) (e : Refusal) (why : Cause) (x : Read ℕ Whole) (spectrum spectrum' : List ℤ)

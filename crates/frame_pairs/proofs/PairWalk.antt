@@ -5,12 +5,13 @@ use mathlib.Core.Bool.{Bool, true, false, cond}
 use mathlib.Core.List.{List}
 use Prim.Native.Nat.{ℕ, zero, suc, ◌+◌, ◌-◌, ◌*◌, ◌/◌, ◌≤◌, ◌<◌}
 use native.Mathlib.Omega.{arith}
+use native.Mathlib.Nat.{add-zero}
 use native.Mathlib.Numerals.{add-one}
 use lib.Dec.{eqb}
 use lib.ListN.{length, get_or, set, length-set}
 use lib.Seq.{get_or-set_same, get_or-set_other}
 use lib.IntN.{ℤ, pos, nat_abs, neg_ℤ}
-use borrow.Author.Tests.{eqb-true, eqb-false}
+use borrow.Author.Tests.{lt-ltb, le-ltb, eqb-true, eqb-false}
 use Rattle.frame_bits.specs.Read.{value, cause}
 use Rattle.frame_pair.specs.Pair.{pair_of}
 use Rattle.frame_pairs.specs.Pairs.{base_of, line_of, store_of, pairs_of}
@@ -19,6 +20,14 @@ use Rattle.frame_pairs.specs.Sound.{Roomy}
 use Rattle.frame_coder.specs.declared.Coder.{Coder}
 use Rattle.frame_pair.specs.declared.Pair.{Pair}
 use Rattle.frame_pairs.specs.declared.PairSetting.{PairSetting}
+
+-- ---- the context of a line with its offsets
+
+pub base-past : (context offset half k : ℕ) → half < k → context + offset + 256 ≡ base_of context offset half k
+base-past context offset half k h = rw (lt-ltb half k h)
+
+pub base-before : (context offset half k : ℕ) → k ≤ half → context + offset ≡ base_of context offset half k
+base-before context offset half k h = rw (le-ltb half k h) (sym (add-zero (context + offset)))
 
 -- ---- a line
 

@@ -137,11 +137,18 @@ module _ (f : Form) where
     unfolding has_room
     room-yes h k = simp (le-leb (used_with f used e) (length d) h, le-leb (used_with f used e) 65536 k)
 
+    pub room-buffer : length d < used_with f used e → has_room f d used e ≡ false
+    unfolding has_room
+    room-buffer h = simp (lt-leb (used_with f used e) (length d) h)
+
+    pub room_most : 65536 < used_with f used e → has_room f d used e ≡ false
+    unfolding has_room
+    room_most h = simp (lt-leb (used_with f used e) 65536 h, and-false)
+
     pub room_none : (length d < used_with f used e) ⊎ ((used_with f used e ≤ length d) × (65536 < used_with f used e))
         → has_room f d used e ≡ false
-    unfolding has_room
-    room_none (inl h) = simp (lt-leb (used_with f used e) (length d) h)
-    room_none (inr h) = simp (lt-leb (used_with f used e) 65536 h.1, and-false)
+    room_none (inl h) = room-buffer h
+    room_none (inr h) = room_most h.1
 
     pub add-bad : may_add d used e size ≡ false → (refused 1 ≡ add_answer f d used e size) × (d ≡ add_buffer f d used e size)
     unfolding add_answer add_buffer

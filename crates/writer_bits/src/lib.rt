@@ -23,7 +23,10 @@ pub fn put(v: usize, w: usize, c: Cursor, side: &mut [u8]) -> Cursor
     let at = c.at;
     let old = c.held;
     let mut held = old + (v << (at % 8));
-    for b in side[at / 8..(at + w) / 8].iter_mut() {
+    let from = at / 8;
+    // so that one or two bits are seen to fill one byte at most, and the loop is a branch there
+    let full = (at % 8 + w) / 8;
+    for b in side[from..from + full].iter_mut() {
         *b = (held % 256) as u8;
         held = held / 256;
     }

@@ -135,9 +135,9 @@ pub fn fields_fit(r: Setting, f: Fields, first: &[u8], second: &[u8]) -> bool
 
 // Whether the lines are in their range, and how many are not 0.
 #[derive(Clone, Copy)]
-struct Lines {
-    fit: bool,
-    count: usize,
+pub struct Lines {
+    pub fit: bool,
+    pub count: usize,
 }
 
 // Of the lines from one place to another: each at most 32,767, or 0 behind the last line. One loop: two chains (`all`, `filter`) take

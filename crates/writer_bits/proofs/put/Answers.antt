@@ -26,9 +26,9 @@ loop-b-init c =
 
 -- the bytes that are full now
 bytes : (s : List ℕ) (at w : ℕ) → length s ≡ 512 → at ≤ 4000 → w ≤ 25
-    → length (take ((at + w) / 8 - at / 8) (drop (at / 8) s)) ≡ (at + w) / 8 - at / 8
+    → length (take (at / 8 + (at % 8 + w) / 8 - at / 8) (drop (at / 8) s)) ≡ at / 8 + (at % 8 + w) / 8 - at / 8
 bytes s at w r h k =
-    let d = length-drop (at / 8) s in length-take-le ((at + w) / 8 - at / 8) (drop (at / 8) s) (omega arith)
+    let d = length-drop (at / 8) s in length-take-le (at / 8 + (at % 8 + w) / 8 - at / 8) (drop (at / 8) s) (omega arith)
 
 pub loop-b-preserved : goal.loop-b-preserved
 loop-b-preserved c =
@@ -53,7 +53,7 @@ returns-clause-puts c =
     let i = l.invariant in
     let r = c.requires.fact.room in
     let b : ℕ = a.c.at / 8 in
-    let k : ℕ = (a.c.at + a.w) / 8 - b in
+    let k : ℕ = b + (a.c.at % 8 + a.w) / 8 - b in
     let t = bytes a.side.now a.c.at a.w r c.requires.at_bound c.requires.w_bound in
     let d : l.b-index ≡ k = omega arith in
     let z : l.b-index ≡ b + k - b = omega arith in

@@ -1,0 +1,2 @@
+-- What each return of the shape's reading says.
+pub mod ShapeFields
